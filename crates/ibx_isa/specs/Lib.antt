@@ -1,1 +1,5 @@
+pub mod Alu
+pub mod Cost
 pub mod Multiply
+pub mod Views
+pub mod WellFormed

@@ -41,7 +41,11 @@ pub enum Event {
         addr: u32,
     },
     /// An interrupt; `pc` is the address of the instruction that it came before.
-    Irq { cycle: u64, pc: u32, cause: u8 },
+    Irq {
+        cycle: u64,
+        pc: u32,
+        cause: u8,
+    },
 }
 
 /// What of an event may decide the time that it takes: no cycle, and no loaded, stored or computed value.

@@ -1,0 +1,22 @@
+-- The CSR instructions (Unprivileged ISA, 9.1).
+use Rattle.std.specs.Prelude.{ℕ, ◌-◌, ◌^◌, Bool, true, false, not, ◌&&◌, ◌||◌, ◌==◌, nat_le, if◌then◌else◌, bit_and, bit_or}
+use Rattle.ibx_isa.specs.declared.insn.CsrOp.{CsrOp}
+use Rattle.ibx_isa.specs.declared.insn.CsrOp.TheVariants.{Write, Set, Clear}
+
+-- CSRRS and CSRRC with a source field of 0 don't write
+abbrev pub writes : CsrOp → ℕ → Bool
+writes Write src = true
+writes Set src = not (src == 0)
+writes Clear src = not (src == 0)
+
+-- what is handed to the write
+abbrev pub written : CsrOp → ℕ → ℕ → ℕ
+written Write old source = source
+written Set old source = bit_or old source
+written Clear old source = bit_and old (2 ^ 32 - 1 - source)
+
+-- the CSRs that control the core: mstatus, mie, cpuctrl, secureseed, pmpcfg0 to pmpcfg3, pmpaddr0 to pmpaddr15 (our own list)
+abbrev pub is_control : ℕ → Bool
+is_control addr =
+    addr == 0x300 || addr == 0x304 || addr == 0x7c0 || addr == 0x7c1
+    || (nat_le 0x3a0 addr && nat_le addr 0x3a3) || (nat_le 0x3b0 addr && nat_le addr 0x3bf)

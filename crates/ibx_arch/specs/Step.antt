@@ -1,0 +1,148 @@
+-- One step of the architecture, as a function of the state, the choice and the cycle.
+use Rattle.std.specs.Prelude.{◌≡◌, ℕ, zero, suc, ◌+◌, ◌*◌, ◌%◌, ◌^◌, Bool, true, false, ◌==◌, if◌then◌else◌, Option, Some, None, bit_and, List, replicate}
+use Rattle.ibx_elf.specs.Image.{Placed}
+use Rattle.ibx_isa.specs.declared.insn.Insn.{Insn}
+use Rattle.ibx_isa.specs.declared.insn.Insn.TheVariants.{Lui, Auipc, Jal, Jalr, Branch, Load, Store, AluImm, Alu, MulDiv, Csr, Fence, FenceI, Ecall, Ebreak, Mret, Wfi}
+use Rattle.ibx_isa.specs.declared.event.Event.{Event}
+use Rattle.ibx_isa.specs.declared.event.Event.TheVariants.{Retire, Trap, Irq}
+use Rattle.ibx_csr.specs.Values.{csr_reset, csr_tick, trap_regs, with_trap_regs}
+use Rattle.ibx_trap.specs.Interrupts.{pending_of}
+use Rattle.ibx_trap.specs.Traps.{enter_of, enter_target}
+use Rattle.ibx_arch.specs.declared.done.Done.{Done}
+use Rattle.ibx_arch.specs.declared.done.Done.TheVariants.{Retires, Traps}
+use Rattle.ibx_arch.specs.declared.fetched.Fetched.{Fetched}
+use Rattle.ibx_arch.specs.declared.fetched.Fetched.TheVariants.{Unsound, Instruction}
+use Rattle.ibx_arch.specs.Memory.{read_byte, image_memory}
+use Rattle.ibx_arch.specs.State.{State, reg, with_reg, at_cycle}
+use Rattle.ibx_arch.specs.Fetch.{fetch, instruction_of}
+use Rattle.ibx_arch.specs.Effects.{Executed, execute, trap, illegal, may_wait}
+
+-- what a step is taken with: an interrupt's number, or the two parcels that were fetched at the program counter
+pub data Choice : Type 0 where
+  Interrupt : (number : ℕ) → Choice
+  Parcels : (first second : ℕ) → Choice
+
+-- the event that a step gives, and the state after it
+pub record Stepped : Type 0 where
+  pub event : Event
+  pub next : State
+
+-- the registers that an instruction reads as rs1 and rs2, 0 where it reads none
+abbrev pub source1 : Insn → ℕ
+source1 (Jalr rd rs1 imm) = rs1
+source1 (Branch op rs1 rs2 imm) = rs1
+source1 (Load op rd rs1 imm) = rs1
+source1 (Store size rs1 rs2 imm) = rs1
+source1 (AluImm op rd rs1 imm) = rs1
+source1 (Alu op rd rs1 rs2) = rs1
+source1 (MulDiv op rd rs1 rs2) = rs1
+source1 (Csr op rd src false addr) = src
+source1 _ = 0
+
+abbrev pub source2 : Insn → ℕ
+source2 (Branch op rs1 rs2 imm) = rs2
+source2 (Store size rs1 rs2 imm) = rs2
+source2 (Alu op rd rs1 rs2) = rs2
+source2 (MulDiv op rd rs1 rs2) = rs2
+source2 _ = 0
+
+-- the operands, where fixed timing (bit 1 of cpuctrl) is off
+unfoldable pub operands : State → Insn → Option (ℕ × ℕ)
+operands s insn = if bit_and s.csrs.cpuctrl 2 == 0 then Some (reg s (source1 insn), reg s (source2 insn)) else None
+
+-- The event of an instruction at a program counter and the state after it, from how it ended. A trap goes to
+-- its handler (Privileged ISA 1.12, 3.1.6.1).
+abbrev pub ended : ℕ → List ℕ → ℕ → ℕ → Option (ℕ × ℕ) → Executed → Done → Stepped
+ended pc regs cycle word ops after (Retires r) = record {
+  event = Retire cycle pc word r.rd (if r.rd == 0 then 0 else r.value) r.mem r.ctl ops;
+  next = record { pc = r.next_pc; regs = with_reg regs r.rd r.value; memory = after.memory; csrs = after.csrs; stands = cycle + 1 };
+}
+ended pc regs cycle word ops after (Traps cause tval addr) = record {
+  event = Trap cycle pc word cause tval addr;
+  next = record {
+    pc = enter_target (trap_regs after.csrs) cause false;
+    regs = regs;
+    memory = after.memory;
+    csrs = with_trap_regs after.csrs (enter_of (trap_regs after.csrs) pc cause false tval);
+    stands = cycle + 1;
+  };
+}
+
+unfoldable pub finished : ℕ → List ℕ → ℕ → ℕ → Option (ℕ × ℕ) → Executed → Stepped
+finished pc regs cycle word ops executed = ended pc regs cycle word ops executed executed.done
+
+-- a word that fits no row is illegal
+abbrev pub decoded : State → ℕ → ℕ → ℕ → ℕ → Option Insn → Stepped
+decoded s cycle word length lines None = finished s.pc s.regs cycle word None (illegal s word)
+decoded s cycle word length lines (Some insn) = finished s.pc s.regs cycle word (operands s insn) (execute s insn word length lines)
+
+-- an unsound parcel is an instruction access fault, cause 1, whose event has no word
+abbrev pub after_fetch : State → ℕ → ℕ → Fetched → Stepped
+after_fetch s cycle lines (Unsound addr) = finished s.pc s.regs cycle 0 None (trap s 1 addr 0)
+after_fetch s cycle lines (Instruction word length) = decoded s cycle word length lines (instruction_of word)
+
+-- one instruction, from the parcels at the program counter, at a cycle with these interrupt lines
+unfoldable pub instruction : State → ℕ → ℕ → ℕ → ℕ → Stepped
+instruction s first second cycle lines = after_fetch s cycle lines (fetch s first second)
+
+-- an interrupt that is taken
+unfoldable pub interrupted : State → ℕ → ℕ → Stepped
+interrupted s number cycle = record {
+  event = Irq cycle s.pc number;
+  next = record s {
+    pc = enter_target (trap_regs s.csrs) number true;
+    csrs = with_trap_regs (csr_tick s.csrs false None) (enter_of (trap_regs s.csrs) s.pc number true 0);
+    stands = cycle + 1;
+  };
+}
+
+-- the pending interrupt is this one
+abbrev pub is_pending : Option ℕ → ℕ → Bool
+is_pending None number = false
+is_pending (Some n) number = n == number
+
+-- the state takes this interrupt with these lines
+abbrev pub takes : State → ℕ → ℕ → Bool
+takes s lines number = is_pending (pending_of s.csrs.machine s.csrs.mstatus s.csrs.mie lines) number
+
+-- The step with a choice at a cycle, where the plan's lines are a function of the cycle. An interrupt is a
+-- choice only where it is pending with the lines of the cycle before, in which it was admitted.
+unfoldable pub arch_step : (ℕ → ℕ) → State → Choice → ℕ → Option Stepped
+arch_step lines s (Interrupt number) zero = None
+arch_step lines s (Interrupt number) (suc before) =
+    if takes s (lines before) number then Some (interrupted (at_cycle s (suc before)) number (suc before)) else None
+arch_step lines s (Parcels first second) cycle = Some (instruction (at_cycle s cycle) first second cycle (lines cycle))
+
+-- the state at reset: the image in memory, its entry, registers of 0, and the CSRs' reset values
+unfoldable pub reset_state : Placed → State
+reset_state image = record {
+  pc = image.entry;
+  regs = replicate 32 0;
+  memory = image_memory image;
+  csrs = csr_reset image.entry;
+  stands = 0;
+}
+
+-- the parcel that memory holds at an address
+abbrev pub parcel_at : State → ℕ → ℕ
+parcel_at s addr = read_byte s.memory addr + 256 * read_byte s.memory ((addr + 1) % 2 ^ 32)
+
+-- a WFI that isn't illegal, and so waits for an interrupt
+abbrev pub waits_with : State → Option Insn → Bool
+waits_with s (Some Wfi) = may_wait s
+waits_with s _ = false
+
+abbrev pub waits_at : State → Fetched → Bool
+waits_at s (Unsound addr) = false
+waits_at s (Instruction word length) = waits_with s (instruction_of word)
+
+unfoldable pub waits : State → ℕ → ℕ → Bool
+waits s first second = waits_at s (fetch s first second)
+
+-- The step of a machine that fetches what memory holds, and that no interrupt line ever reaches. It has none
+-- for a WFI that would wait for ever.
+unfoldable pub present_step : State → ℕ → Option Stepped
+present_step s cycle =
+    let first = parcel_at s s.pc in
+    let second = parcel_at s ((s.pc + 2) % 2 ^ 32) in
+    if waits s first second then None else arch_step (λ _. 0) s (Parcels first second) cycle

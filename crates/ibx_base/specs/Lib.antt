@@ -1,0 +1,6 @@
+pub mod Counts
+pub mod Files
+pub mod Sinks
+pub mod MemFiles
+pub mod Places
+pub mod MemSink

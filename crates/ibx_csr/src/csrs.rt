@@ -1,0 +1,410 @@
+ghost use Rattle.std.specs.Prelude.{◌≡◌, ◌↔◌, slice_index, false};
+ghost use Rattle.ibx_csr.specs.Kept.{is_addr_locked};
+ghost use Rattle.ibx_csr.specs.Values.{csr_reset, value_of, csr_read, csr_can_write, csr_write, OthersStay, csr_tick, counted as count_after, cfg_bytes, trap_regs, kept_regs, with_trap_regs};
+ghost use Rattle.ibx_csr.specs.Fields.{values, Complemented, reset_of, put_of, write_of, tick_of, with_regs, glitch_of};
+
+use crate::kept::{
+    CPUCTRL, MCAUSE, MCOUNTINHIBIT, MEPC, MIE, MSTATUS, cfg_byte, kept_mtvec, stored_cfg,
+    stored_mstatus, with_high, with_low,
+};
+use crate::name::{Csr, csr_at};
+use ibx_isa::TrapRegs;
+
+/// The registers, with the complements of those that protect the core. Each value of each field has a
+/// meaning, also where a complement isn't one.
+///
+/// The mode `priv_` is true for M. `mcycle` counts cycles and `minstret` retired instructions. Entry i of
+/// the protection unit has byte i modulo 4 of `pmpcfg` i / 4, and `pmpaddr` i, which holds bits 33:2 of a
+/// byte address. A name with `_n` is the complement of its register.
+#[derive(Clone, Copy, Debug, PartialEq, Eq)]
+pub struct Csrs {
+    pub priv_: bool,
+    pub mstatus: u32,
+    pub mie: u32,
+    pub mtvec: u32,
+    pub mscratch: u32,
+    pub mepc: u32,
+    pub mcause: u32,
+    pub mtval: u32,
+    pub cpuctrl: u32,
+    pub mcountinhibit: u32,
+    pub mcycle: u64,
+    pub minstret: u64,
+    pub pmpcfg0: u32,
+    pub pmpcfg1: u32,
+    pub pmpcfg2: u32,
+    pub pmpcfg3: u32,
+    pub pmpaddr0: u32,
+    pub pmpaddr1: u32,
+    pub pmpaddr2: u32,
+    pub pmpaddr3: u32,
+    pub pmpaddr4: u32,
+    pub pmpaddr5: u32,
+    pub pmpaddr6: u32,
+    pub pmpaddr7: u32,
+    pub pmpaddr8: u32,
+    pub pmpaddr9: u32,
+    pub pmpaddr10: u32,
+    pub pmpaddr11: u32,
+    pub pmpaddr12: u32,
+    pub pmpaddr13: u32,
+    pub pmpaddr14: u32,
+    pub pmpaddr15: u32,
+    pub mstatus_n: u32,
+    pub mtvec_n: u32,
+    pub cpuctrl_n: u32,
+    pub pmpcfg0_n: u32,
+    pub pmpcfg1_n: u32,
+    pub pmpcfg2_n: u32,
+    pub pmpcfg3_n: u32,
+    pub pmpaddr0_n: u32,
+    pub pmpaddr1_n: u32,
+    pub pmpaddr2_n: u32,
+    pub pmpaddr3_n: u32,
+    pub pmpaddr4_n: u32,
+    pub pmpaddr5_n: u32,
+    pub pmpaddr6_n: u32,
+    pub pmpaddr7_n: u32,
+    pub pmpaddr8_n: u32,
+    pub pmpaddr9_n: u32,
+    pub pmpaddr10_n: u32,
+    pub pmpaddr11_n: u32,
+    pub pmpaddr12_n: u32,
+    pub pmpaddr13_n: u32,
+    pub pmpaddr14_n: u32,
+    pub pmpaddr15_n: u32,
+}
+
+/// The entries of the protection unit: entry i has the configuration byte `cfg[i]` and the address `addr[i]`.
+#[derive(Clone, Copy, Debug, PartialEq, Eq)]
+pub struct PmpView {
+    pub cfg: [u8; 16],
+    pub addr: [u32; 16],
+}
+
+impl Csrs {
+    /// The registers at reset, for a program that is entered at the byte address `entry`: M mode, all 0 but
+    /// MPIE, and handlers at `entry` with bits 7:0 cleared (our own reset values).
+    #[tactic(auto, unfolding(crate::specs::Fields::values, crate::specs::Fields::reset_of, crate::specs::Values::csr_reset))]
+    pub fn reset(entry: u32) -> Csrs
+        ensures fields { result ≡ reset_of entry }
+        ensures values { values result ≡ csr_reset entry }
+        ensures sound { Complemented result }
+    {
+        let mtvec = kept_mtvec(entry);
+        Csrs {
+            priv_: true,
+            mstatus: 0x80,
+            mie: 0,
+            mtvec,
+            mscratch: 0,
+            mepc: 0,
+            mcause: 0,
+            mtval: 0,
+            cpuctrl: 0,
+            mcountinhibit: 0,
+            mcycle: 0,
+            minstret: 0,
+            pmpcfg0: 0,
+            pmpcfg1: 0,
+            pmpcfg2: 0,
+            pmpcfg3: 0,
+            pmpaddr0: 0,
+            pmpaddr1: 0,
+            pmpaddr2: 0,
+            pmpaddr3: 0,
+            pmpaddr4: 0,
+            pmpaddr5: 0,
+            pmpaddr6: 0,
+            pmpaddr7: 0,
+            pmpaddr8: 0,
+            pmpaddr9: 0,
+            pmpaddr10: 0,
+            pmpaddr11: 0,
+            pmpaddr12: 0,
+            pmpaddr13: 0,
+            pmpaddr14: 0,
+            pmpaddr15: 0,
+            mstatus_n: !0x80,
+            mtvec_n: !mtvec,
+            cpuctrl_n: !0,
+            pmpcfg0_n: !0,
+            pmpcfg1_n: !0,
+            pmpcfg2_n: !0,
+            pmpcfg3_n: !0,
+            pmpaddr0_n: !0,
+            pmpaddr1_n: !0,
+            pmpaddr2_n: !0,
+            pmpaddr3_n: !0,
+            pmpaddr4_n: !0,
+            pmpaddr5_n: !0,
+            pmpaddr6_n: !0,
+            pmpaddr7_n: !0,
+            pmpaddr8_n: !0,
+            pmpaddr9_n: !0,
+            pmpaddr10_n: !0,
+            pmpaddr11_n: !0,
+            pmpaddr12_n: !0,
+            pmpaddr13_n: !0,
+            pmpaddr14_n: !0,
+            pmpaddr15_n: !0,
+        }
+    }
+
+    /// The value at an address, where the table has a register there and the mode is M. `lines` are the
+    /// interrupt lines of the cycle, which `mip` reads (Privileged ISA 1.12, chapter 2).
+    #[tactic(auto, unfolding(crate::specs::Values::csr_read, crate::specs::Fields::values))]
+    pub fn read(&self, addr: u16, lines: u32) -> Option<u32>
+        ensures { result ≡ csr_read (values self.now) addr lines }
+    {
+        match csr_at(addr) {
+            Some(register) if self.priv_ => Some(self.value(register, lines)),
+            _ => None,
+        }
+    }
+
+    #[tactic(auto, unfolding(crate::specs::Values::value_of, crate::specs::Fields::values))]
+    fn value(&self, register: Csr, lines: u32) -> u32
+        ensures { result ≡ value_of (values self.now) register lines }
+    {
+        match register {
+            Csr::Mstatus => self.mstatus,
+            Csr::Misa => 0x4010_1104,
+            Csr::Mie => self.mie,
+            Csr::Mtvec => self.mtvec,
+            Csr::Mcountinhibit => self.mcountinhibit,
+            Csr::Mscratch => self.mscratch,
+            Csr::Mepc => self.mepc,
+            Csr::Mcause => self.mcause,
+            Csr::Mtval => self.mtval,
+            Csr::Mip => lines,
+            Csr::Pmpcfg(index) => self.cfg(index),
+            Csr::Pmpaddr(index) => self.addr(index),
+            Csr::Cpuctrl => self.cpuctrl,
+            Csr::Secureseed => 0,
+            Csr::Mcycle => (self.mcycle & 0xffff_ffff) as u32,
+            Csr::Mcycleh => (self.mcycle >> 32) as u32,
+            Csr::Minstret => (self.minstret & 0xffff_ffff) as u32,
+            Csr::Minstreth => (self.minstret >> 32) as u32,
+            Csr::Marchid => 0x16,
+            Csr::Zero => 0,
+        }
+    }
+
+    /// Writes at an address, and says whether it could be written: not where a read gives nothing, nor
+    /// where address bits 11:10 are both 1 (Privileged ISA 1.12, 2.1); then nothing changed. A write of
+    /// `secureseed` changes nothing here.
+    pub fn write(&mut self, addr: u16, value: u32) -> bool
+        ensures done { result ≡ csr_can_write (values self.old) addr }
+        ensures fields { self.new ≡ write_of self.old addr value }
+        ensures values { values self.new ≡ csr_write (values self.old) addr value }
+        ensures others { OthersStay (values self.old) (values self.new) addr }
+        ensures mode { self.new.priv_ ≡ self.old.priv_ }
+        ensures sound { Complemented self.old → Complemented self.new }
+    {
+        self.write_at(addr, value)
+    }
+
+    #[tactic(auto, unfolding(crate::specs::Values::csr_can_write, crate::specs::Fields::values, crate::specs::Fields::write_of))]
+    fn write_at(&mut self, addr: u16, value: u32) -> bool
+        ensures done { result ≡ csr_can_write (values self.old) addr }
+        ensures fields { self.new ≡ write_of self.old addr value }
+    {
+        if (addr >> 10) & 3 == 3 {
+            return false;
+        }
+        match csr_at(addr) {
+            Some(register) if self.priv_ => {
+                self.put(register, value);
+                true
+            }
+            _ => false,
+        }
+    }
+
+    // Writes a register, with its complement where it has one.
+    #[tactic(auto, unfolding(crate::specs::Fields::put_of))]
+    fn put(&mut self, register: Csr, value: u32)
+        ensures { self.new ≡ put_of self.old register value }
+    {
+        match register {
+            Csr::Mstatus => {
+                let kept = stored_mstatus(value);
+                self.mstatus = kept;
+                self.mstatus_n = !kept;
+            }
+            Csr::Mie => self.mie = value & MIE,
+            Csr::Mtvec => {
+                let kept = kept_mtvec(value);
+                self.mtvec = kept;
+                self.mtvec_n = !kept;
+            }
+            Csr::Mcountinhibit => self.mcountinhibit = value & MCOUNTINHIBIT,
+            Csr::Mscratch => self.mscratch = value,
+            Csr::Mepc => self.mepc = value & MEPC,
+            Csr::Mcause => self.mcause = value & MCAUSE,
+            Csr::Mtval => self.mtval = value,
+            Csr::Pmpcfg(index) => {
+                let kept = stored_cfg(self.cfg(index), value);
+                self.put_cfg(index, kept);
+            }
+            Csr::Pmpaddr(index) => {
+                if !self.is_addr_locked(index) {
+                    self.put_addr(index, value);
+                }
+            }
+            Csr::Cpuctrl => {
+                let kept = value & CPUCTRL;
+                self.cpuctrl = kept;
+                self.cpuctrl_n = !kept;
+            }
+            Csr::Mcycle => self.mcycle = with_low(self.mcycle, value),
+            Csr::Mcycleh => self.mcycle = with_high(self.mcycle, value),
+            Csr::Minstret => self.minstret = with_low(self.minstret, value),
+            Csr::Minstreth => self.minstret = with_high(self.minstret, value),
+            Csr::Misa | Csr::Mip | Csr::Secureseed | Csr::Marchid | Csr::Zero => {}
+        }
+    }
+
+    // An address is locked by its own entry, or by the one above it where that is a range that begins at it.
+    fn is_addr_locked(&self, index: u8) -> bool
+        ensures { result ≡ is_addr_locked (cfg_bytes (values self.now)) index }
+    {
+        let view = self.pmp();
+        let own = byte_at(&view.cfg, index as usize);
+        let next = byte_at(&view.cfg, index as usize + 1);
+        own & 0x80 != 0 || next & 0x98 == 0x88
+    }
+
+    /// Moves the two counters by one cycle: `retired` says whether an instruction retires in it, and `wrote`
+    /// is the address that this instruction writes, if any. It is called before the write itself.
+    ///
+    /// Bit 0 of `mcountinhibit` stops `mcycle`, and bit 2 `minstret` (Privileged ISA 1.12, 3.1.10 and 3.1.12).
+    /// A counter stands still in a cycle in which one of its halves is written (our own rule).
+    #[tactic(auto, unfolding(crate::specs::Fields::tick_of, crate::specs::Fields::values, crate::specs::Values::csr_tick))]
+    pub fn tick(&mut self, retired: bool, wrote: Option<u16>)
+        ensures fields { self.new ≡ tick_of self.old retired wrote }
+        ensures values { values self.new ≡ csr_tick (values self.old) retired wrote }
+        ensures sound { Complemented self.old → Complemented self.new }
+    {
+        let writes_cycle = matches!(wrote, Some(0xb00 | 0xb80));
+        let writes_instret = matches!(wrote, Some(0xb02 | 0xb82));
+        let cycle_stands = writes_cycle || self.mcountinhibit & 1 != 0;
+        let instret_stands = !retired || writes_instret || self.mcountinhibit & 4 != 0;
+        self.mcycle = counted(self.mcycle, cycle_stands);
+        self.minstret = counted(self.minstret, instret_stands);
+    }
+
+    /// Whether a complemented copy isn't the complement of its register (our own check).
+    pub fn glitch(&self) -> bool
+        ensures fields { result ≡ glitch_of self.now }
+        ensures sound { (result ≡ false) ↔ Complemented self.now }
+    {
+        self.has_glitch()
+    }
+
+    /// The registers that a trap reads.
+    #[tactic(auto, unfolding(crate::specs::Fields::values))]
+    pub fn regs(&self) -> TrapRegs
+        ensures { result ≡ trap_regs (values self.now) }
+    {
+        TrapRegs {
+            machine: self.priv_,
+            mstatus: self.mstatus,
+            mtvec: self.mtvec,
+            mepc: self.mepc,
+            mcause: self.mcause,
+            mtval: self.mtval,
+            cpuctrl: self.cpuctrl,
+        }
+    }
+
+    /// Takes over what a trap left, within the bits that a write keeps. Each value of MPP is kept.
+    #[tactic(auto, unfolding(crate::specs::Fields::with_regs, crate::specs::Fields::values, crate::specs::Values::with_trap_regs))]
+    pub fn set_regs(&mut self, r: &TrapRegs)
+        ensures fields { self.new ≡ with_regs self.old r.now }
+        ensures values { values self.new ≡ with_trap_regs (values self.old) r.now }
+        ensures back { trap_regs (values self.new) ≡ kept_regs r.now }
+        ensures sound { Complemented self.old → Complemented self.new }
+    {
+        let mstatus = r.mstatus & MSTATUS;
+        let mtvec = kept_mtvec(r.mtvec);
+        let cpuctrl = r.cpuctrl & CPUCTRL;
+        self.priv_ = r.machine;
+        self.mstatus = mstatus;
+        self.mstatus_n = !mstatus;
+        self.mtvec = mtvec;
+        self.mtvec_n = !mtvec;
+        self.mepc = r.mepc & MEPC;
+        self.mcause = r.mcause & MCAUSE;
+        self.mtval = r.mtval;
+        self.cpuctrl = cpuctrl;
+        self.cpuctrl_n = !cpuctrl;
+    }
+
+    /// The entries of the protection unit.
+    #[tactic(auto, unfolding(crate::specs::Fields::values))]
+    pub fn pmp(&self) -> PmpView
+        ensures cfg { result.cfg ≡ cfg_bytes (values self.now) }
+        ensures addr { result.addr ≡ (values self.now).pmpaddr }
+    {
+        PmpView {
+            cfg: [
+                cfg_byte(self.pmpcfg0, 0),
+                cfg_byte(self.pmpcfg0, 1),
+                cfg_byte(self.pmpcfg0, 2),
+                cfg_byte(self.pmpcfg0, 3),
+                cfg_byte(self.pmpcfg1, 0),
+                cfg_byte(self.pmpcfg1, 1),
+                cfg_byte(self.pmpcfg1, 2),
+                cfg_byte(self.pmpcfg1, 3),
+                cfg_byte(self.pmpcfg2, 0),
+                cfg_byte(self.pmpcfg2, 1),
+                cfg_byte(self.pmpcfg2, 2),
+                cfg_byte(self.pmpcfg2, 3),
+                cfg_byte(self.pmpcfg3, 0),
+                cfg_byte(self.pmpcfg3, 1),
+                cfg_byte(self.pmpcfg3, 2),
+                cfg_byte(self.pmpcfg3, 3),
+            ],
+            addr: [
+                self.pmpaddr0,
+                self.pmpaddr1,
+                self.pmpaddr2,
+                self.pmpaddr3,
+                self.pmpaddr4,
+                self.pmpaddr5,
+                self.pmpaddr6,
+                self.pmpaddr7,
+                self.pmpaddr8,
+                self.pmpaddr9,
+                self.pmpaddr10,
+                self.pmpaddr11,
+                self.pmpaddr12,
+                self.pmpaddr13,
+                self.pmpaddr14,
+                self.pmpaddr15,
+            ],
+        }
+    }
+}
+
+// A count after a cycle in which it stands still or counts.
+fn counted(count: u64, stands: bool) -> u64
+    ensures { result ≡ count_after count stands }
+{
+    if stands { count } else { count.wrapping_add(1) }
+}
+
+// Byte `index`, or 0 past the end.
+fn byte_at(bytes: &[u8], index: usize) -> u8
+    ensures { result ≡ slice_index bytes.now index }
+{
+    match bytes.get(index) {
+        Some(byte) => *byte,
+        None => 0,
+    }
+}
+
+#[cfg(test)]
+mod tests;

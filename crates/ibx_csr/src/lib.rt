@@ -1,0 +1,11 @@
+//! The control and status registers, each register that protects the core with a complemented copy.
+#![tactic(auto)]
+
+mod csrs;
+mod fields;
+mod guard;
+mod kept;
+mod name;
+
+pub use csrs::{Csrs, PmpView};
+pub use name::{Csr, csr_at};

@@ -1,0 +1,4 @@
+pub mod Bits
+pub mod Compressed
+pub mod Rows
+pub mod Table

@@ -1,0 +1,14 @@
+//! Instruction words and what they stand for: the 32-bit instructions of RV32IM, Zicsr and Zifencei, and the
+//! compressed ones of RV32C.
+#![tactic(auto)]
+
+mod assemble;
+mod fields;
+mod half_fields;
+mod halves;
+#[cfg(test)]
+mod tests;
+mod words;
+
+pub use halves::{expand, is_short};
+pub use words::decode;

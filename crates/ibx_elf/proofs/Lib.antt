@@ -1,0 +1,5 @@
+pub mod Reading
+pub mod Searching
+pub mod Overlaps
+pub mod Laws
+pub mod FourBytes

@@ -1,0 +1,6 @@
+use Rattle.std.proofs.Common.{◌∙◌}
+use Rattle.ibx_elf.proofs.Reading.{read-field}
+use Rattle.ibx_elf.proofs.fields.half_at.Goals as goal
+
+pub returns : goal.returns
+returns c = c.read_u16.ensures ∙ read-field 2 c.args.offset c.args.file.now c.requires

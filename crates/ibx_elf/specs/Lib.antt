@@ -1,0 +1,5 @@
+pub mod Faults
+pub mod Fields
+pub mod Image
+pub mod Ram
+pub mod Search

@@ -1,0 +1,26 @@
+-- The memory that a file is loaded into.
+use Rattle.std.specs.Prelude.{◌≡◌, ℕ, ◌+◌, ◌%◌, ◌^◌, ◌<◌, ◌≤◌, Bool, ◌&&◌, nat_lt, nat_le}
+use Rattle.ibx_elf.specs.declared.ram.Ram.{Ram}
+
+-- a range of addresses that may be memory: whole pages, at most 16 MiB, below 2^32, and none of them the
+-- host page from 0x20000 to 0x20fff (our own rule)
+pub record IsRam (ram : Ram) : Type 0 where
+  pub base_in_steps : ram.base % 4096 ≡ 0
+  pub size_in_steps : ram.size % 4096 ≡ 0
+  pub smallest : 4096 ≤ ram.size
+  pub largest : ram.size ≤ 16777216
+  pub ends_below : ram.base + ram.size ≤ 2 ^ 32
+  pub off_host_page : 0x20000 < ram.base + ram.size → 0x21000 ≤ ram.base
+
+-- an address of memory
+pub record IsInRam (ram : Ram) (addr : ℕ) : Type 0 where
+  pub from_base : ram.base ≤ addr
+  pub before_end : addr < ram.base + ram.size
+
+-- the test of `IsInRam`
+abbrev pub ram_has : Ram → ℕ → Bool
+ram_has ram addr = nat_le ram.base addr && nat_lt addr (ram.base + ram.size)
+
+-- so many bytes from an address on are all memory
+abbrev pub ram_has_all : Ram → ℕ → ℕ → Bool
+ram_has_all ram addr bytes = nat_le ram.base addr && nat_le (addr + bytes) (ram.base + ram.size)

@@ -1,0 +1,96 @@
+ghost use Rattle.ibx_elf.specs.Faults.{IsWellFormed, Reports, first_fault};
+ghost use Rattle.ibx_elf.specs.Image.{HoldsSegments, IsReadable, IsZeroElsewhere, Placed, byte_of, image_of, placed_byte, word_of};
+ghost use Rattle.ibx_elf.specs.Ram.{IsInRam, IsRam};
+ghost use Rattle.std.specs.Prelude.{IfOk, ℕ, ◌+◌, ◌%◌, ◌/◌, ◌<◌, ◌^◌, ◌≡◌};
+
+use crate::checks::{check_entry, check_file_header, check_overlaps, check_ranges, check_segments};
+use crate::fault::ElfFault;
+use crate::fields::{E_ENTRY, ProgramHeader, header_count, word_at};
+use crate::ram::Ram;
+use std::marker::Model;
+
+/// The memory that a file describes: each file byte that a loadable segment places at its physical
+/// address, and 0 elsewhere. It reads the file in place.
+#[derive(Drop)]
+pub struct Image<'f> {
+    file: &'f [u8],
+    ram: Ram,
+}
+
+impl<'f> Model for Image<'f> {
+    ghost Value = { Placed };
+
+    ghost view = { λ image. image_of image.file.now image.ram };
+
+    ghost invariant = { λ image. IsRam image.ram × IsWellFormed image.file.now image.ram };
+}
+
+/// Reads an ELF32 file for a RAM (System V gABI). Flags, the OS ABI, sections, `p_vaddr`, `p_flags` and
+/// `p_align` are not looked at; `e_phentsize` and `e_phoff` only where there are program headers, and
+/// `p_offset` only where `p_filesz` isn't 0.
+#[tactic(auto, unfolding(crate::specs::Faults::first_fault))]
+pub fn load<'f>(file: &'f [u8], ram: Ram) -> Result<Image<'f>, ElfFault>
+    requires { IsRam ram }
+    ensures fault { Reports result (first_fault file.now ram) }
+    ensures image { IfOk result (λ image. image ≡ image_of file.now ram) }
+
+    // What the image's bytes are, segment by segment.
+    ensures segments { IfOk result (λ image. HoldsSegments file.now image) }
+    ensures zero_elsewhere { IfOk result (λ image. IsZeroElsewhere file.now image) }
+{
+    check_file_header(file)?;
+    check_segments(file)?;
+    check_ranges(file, ram)?;
+    check_overlaps(file)?;
+    check_entry(file, ram)?;
+    Ok(Image { file, ram })
+}
+
+impl<'f> Image<'f> {
+    /// The RAM that was handed to [`load`].
+    pub fn ram(&self) -> Ram
+        ensures handed_in { result ≡ self.now.ram }
+        ensures valid { IsRam result }
+    {
+        self.ram
+    }
+
+    /// The byte address of the first instruction, `e_entry`.
+    pub fn entry(&self) -> u32
+        ensures entry { result ≡ self.now.entry }
+        ensures even { result % 2 ≡ 0 }
+        ensures in_ram { IsInRam self.now.ram result }
+    {
+        word_at(self.file, E_ENTRY)
+    }
+
+    /// The word at a byte address of RAM that is a multiple of 4, the lowest byte first.
+    pub fn word(&self, addr: u32) -> u32
+        requires aligned { addr % 4 ≡ 0 }
+        requires in_ram { IsInRam self.now.ram addr }
+        ensures value { result ≡ word_of self.now addr }
+        ensures bytes { (k : ℕ) → k < 4 → result / 256 ^ k % 256 ≡ byte_of self.now (addr + k) }
+    {
+        u32::from_le_bytes([
+            byte_at(self.file, addr),
+            byte_at(self.file, addr + 1),
+            byte_at(self.file, addr + 2),
+            byte_at(self.file, addr + 3),
+        ])
+    }
+}
+
+/// The file byte that a segment places at a byte address, or 0.
+#[tactic(auto, using(crate::proofs::Searching::steps), unfolding(crate::specs::Image::placed_byte, crate::specs::Image::placed_by))]
+fn byte_at(file: &[u8], addr: u32) -> u8
+    requires { IsReadable file.now }
+    ensures { result ≡ placed_byte file.now addr }
+{
+    for i in 0..header_count(file) {
+        let header = ProgramHeader::read(file, i);
+        if header.places(addr) {
+            return file[header.p_offset as usize + (addr - header.p_paddr) as usize];
+        }
+    }
+    0
+}

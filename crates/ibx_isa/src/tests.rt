@@ -1,0 +1,86 @@
+use crate::{Access, AluOp, BranchOp, Event, MdOp, MulKind, alu, branch, md_cost, view};
+use std::test::Fail;
+
+#[test]
+fn computes(rt: HostRuntime) -> Result<(), Fail> {
+    for (op, a, b, value) in [
+        (AluOp::Add, 0xffff_ffff, 2, 1),
+        (AluOp::Sub, 0, 1, 0xffff_ffff),
+        (AluOp::Sll, 1, 0x3f, 0x8000_0000),
+        (AluOp::Slt, 0x8000_0000, 0, 1),
+        (AluOp::Sltu, 0x8000_0000, 0, 0),
+        (AluOp::Xor, 0xff, 0x0f, 0xf0),
+        (AluOp::Srl, 0x8000_0000, 33, 0x4000_0000),
+        (AluOp::Sra, 0x8000_0000, 33, 0xc000_0000),
+        (AluOp::Or, 0xf0, 0x0c, 0xfc),
+        (AluOp::And, 0xf0, 0x3c, 0x30),
+    ] {
+        assert_eq!(rt; alu(op, a, b), value);
+    }
+    for (op, taken) in [
+        (BranchOp::Eq, false),
+        (BranchOp::Ne, true),
+        (BranchOp::Lt, true),
+        (BranchOp::Ge, false),
+        (BranchOp::Ltu, false),
+        (BranchOp::Geu, true),
+    ] {
+        assert_eq!(rt; branch(op, 0xffff_ffff, 1), taken);
+    }
+    for (b, fixed, cost) in [
+        (0, false, 0),
+        (1, false, 1),
+        (0x80, false, 8),
+        (0xffff_ffff, false, 32),
+        (0, true, 32),
+    ] {
+        assert_eq!(rt; md_cost(MdOp::Mul, b, fixed, MulKind::Slow), cost);
+    }
+    assert_eq!(rt; md_cost(MdOp::Rem, 0, false, MulKind::Fast), 1);
+    assert_eq!(rt; md_cost(MdOp::Rem, 0, true, MulKind::Fast), 37);
+    Ok(())
+}
+
+#[test]
+fn views(rt: HostRuntime) -> Result<(), Fail> {
+    let store = view(&Event::Retire {
+        cycle: 5,
+        pc: 0x0010_0088,
+        word: 0x0073_2423,
+        rd: 0,
+        value: 0,
+        mem: Some(Access {
+            addr: 0x0002_0008,
+            size: 4,
+            store: true,
+            value: 1,
+        }),
+        ctl: None,
+        ops: None,
+    });
+    assert_eq!(rt;
+        (store.kind, store.word, store.addr),
+        (0, 0x0073_2423, Some(0x0002_0008))
+    );
+    for (cause, addr) in [(5, Some(0x0020_0000)), (7, Some(0x0020_0000)), (2, None)] {
+        let trap = view(&Event::Trap {
+            cycle: 8,
+            pc: 0x0010_0088,
+            word: 0xfe82_af23,
+            cause,
+            tval: 0x0020_0000,
+            addr: 0x0020_0000,
+        });
+        assert_eq!(rt; (trap.kind, trap.cause, trap.addr), (1, cause, addr));
+    }
+    let irq = view(&Event::Irq {
+        cycle: 4,
+        pc: 0x0010_0088,
+        cause: 3,
+    });
+    assert_eq!(rt;
+        (irq.kind, irq.pc, irq.word, irq.cause),
+        (2, 0x0010_0088, 0, 3)
+    );
+    Ok(())
+}

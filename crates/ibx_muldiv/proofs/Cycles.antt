@@ -1,0 +1,184 @@
+-- A start and the cycles after it.
+use Rattle.std.proofs.Common.{◌≡◌, ◌≢◌, ℕ, suc, ◌+◌, ◌-◌, ◌*◌, ◌/◌, ◌^◌, ◌<◌, Bool, true, false, cond, eqb, refl, sym, ap, ◌∙◌, subst, arith}
+use Rattle.std.proofs.lemmas.Nat.{mul-lt}
+use Rattle.std.proofs.lemmas.Bool.{ne_eqb}
+use Rattle.ibx_isa.specs.declared.insn.MdOp.{MdOp}
+use Rattle.ibx_isa.specs.declared.insn.MdOp.TheVariants.{Mul, Mulh, Mulhsu, Mulhu, Div, Divu, Rem, Remu}
+use Rattle.ibx_isa.specs.declared.insn.MulKind.{MulKind}
+use Rattle.ibx_isa.specs.declared.insn.MulKind.TheVariants.{Single, Fast, Slow}
+use Rattle.ibx_isa.specs.Cost.{md_cost_of, division_cost, high_cost, low_cost, significant_bits}
+use Rattle.ibx_isa.specs.Multiply.{md_value, signed}
+use Rattle.ibx_isa.proofs.Width.{width_of_word}
+use Rattle.ibx_muldiv.specs.declared.operands.Operands.{Operands}
+use Rattle.ibx_muldiv.specs.declared.unit.MulDiv.{MulDiv}
+use Rattle.ibx_muldiv.specs.declared.work.Work.{Work}
+use Rattle.ibx_muldiv.specs.Operands.{is_division, operands_of, magnitude}
+use Rattle.ibx_muldiv.specs.Steps.{pace_of, begun_product, begun_division, multiplied, step_of}
+use Rattle.ibx_muldiv.specs.Unit.{seen, left_of, begun, start_of, tick_of, result_of, ticks, Finishes}
+use Rattle.ibx_muldiv.proofs.Fields.{IsSized, seen-packed, seen-tick, steps, answer, result_of-ticks}
+use Rattle.ibx_muldiv.proofs.Products.{product_finishes}
+use Rattle.ibx_muldiv.proofs.Division.{division_finishes}
+use Rattle.ibx_muldiv.proofs.Values.{signed_product, mixed_product, signed_quotient, signed_remainder, magnitude-le, magnitude-zero}
+
+-- ---- sizes
+
+pub record AreWords (o : Operands) : Type 0 where
+  pub first : o.first < 2 ^ 32
+  pub second : o.second < 2 ^ 32
+
+pub operand_words : (op : MdOp) (a b : ℕ) → a < 2 ^ 32 → b < 2 ^ 32 → AreWords (operands_of op a b)
+unfolding operands_of
+operand_words Mul a b fa fb = record { first = fa; second = fb }
+operand_words Mulh a b fa fb = record { first = omega (arith, magnitude-le a fa); second = omega (arith, magnitude-le b fb) }
+operand_words Mulhsu a b fa fb = record { first = omega (arith, magnitude-le a fa); second = fb }
+operand_words Mulhu a b fa fb = record { first = fa; second = fb }
+operand_words Div a b fa fb = record { first = omega (arith, magnitude-le a fa); second = omega (arith, magnitude-le b fb) }
+operand_words Divu a b fa fb = record { first = fa; second = fb }
+operand_words Rem a b fa fb = record { first = omega (arith, magnitude-le a fa); second = omega (arith, magnitude-le b fb) }
+operand_words Remu a b fa fb = record { first = fa; second = fb }
+
+pace_small : (mul : MulKind) → pace_of mul < 64
+pace_small Single = omega arith
+pace_small Fast = omega arith
+pace_small Slow = omega arith
+
+division_sized : (o : Operands) (cost : ℕ) → AreWords o → cost < 64 → IsSized (begun_division o cost)
+unfolding begun_division
+division_sized o cost words lt = record { rest = words.second; left = lt; pace = omega arith }
+
+product_sized : (o : Operands) (cost : ℕ) (mul : MulKind) → AreWords o → cost < 64 → IsSized (begun_product o cost mul)
+unfolding begun_product multiplied
+product_sized o cost mul words lt =
+    let w : Work = record { sum = 0; multiplicand = o.first; rest = o.second; left = cost; pace = pace_of mul; divides = false; high = o.high; negate = o.negate } in
+    elim (eqb cost 0) as (λ b. IsSized (cond b (multiplied 32 w) w)) [
+      | true ↦ record { rest = omega (arith, words.second); left = lt; pace = pace_small mul }
+      | false ↦ record { rest = words.second; left = lt; pace = pace_small mul }
+    ]
+
+pub begun_sized : (op : MdOp) (a b cost : ℕ) (mul : MulKind) → a < 2 ^ 32 → b < 2 ^ 32 → cost < 64 → IsSized (begun (is_division op) op a b cost mul)
+begun_sized op a b cost mul fa fb lt =
+    elim (is_division op) as (λ d. IsSized (begun d op a b cost mul)) [
+      | true ↦ division_sized (operands_of op a b) cost (operand_words op a b fa fb) lt
+      | false ↦ product_sized (operands_of op a b) cost mul (operand_words op a b fa fb) lt
+    ]
+
+begun-left : (op : MdOp) (a b cost : ℕ) (mul : MulKind) → (begun (is_division op) op a b cost mul).left ≡ cost
+unfolding begun_division begun_product multiplied
+begun-left op a b cost mul =
+    elim (is_division op) as (λ d. (begun d op a b cost mul).left ≡ cost) [
+      | true ↦ refl
+      | false ↦
+          let o : Operands = operands_of op a b in
+          let w : Work = record { sum = 0; multiplicand = o.first; rest = o.second; left = cost; pace = pace_of mul; divides = false; high = o.high; negate = o.negate } in
+          elim (eqb cost 0) as (λ b. (cond b (multiplied 32 w) w).left ≡ cost) [ true ↦ refl | false ↦ refl ]
+    ]
+
+-- ---- costs
+
+low_small : (mul : MulKind) (b : ℕ) (fixed : Bool) → low_cost mul b fixed < 64
+low_small Single b fixed = omega arith
+low_small Fast b fixed = omega arith
+low_small Slow b true = omega arith
+low_small Slow b false = omega arith
+
+high_small : (mul : MulKind) → high_cost mul < 64
+high_small Single = omega arith
+high_small Fast = omega arith
+high_small Slow = omega arith
+
+division_small : (b : ℕ) (fixed : Bool) → division_cost b fixed < 64
+division_small b true = omega arith
+division_small b false = elim (eqb b 0) as (λ e. cond e 1 37 < 64) [ true ↦ omega arith | false ↦ omega arith ]
+
+pub cost_small : (op : MdOp) (b : ℕ) (fixed : Bool) (mul : MulKind) → md_cost_of op b fixed mul < 64
+unfolding md_cost_of
+cost_small Mul b fixed mul = low_small mul b fixed
+cost_small Mulh b fixed mul = high_small mul
+cost_small Mulhsu b fixed mul = high_small mul
+cost_small Mulhu b fixed mul = high_small mul
+cost_small Div b fixed mul = division_small b fixed
+cost_small Divu b fixed mul = division_small b fixed
+cost_small Rem b fixed mul = division_small b fixed
+cost_small Remu b fixed mul = division_small b fixed
+
+-- ---- the answer
+
+high_enough : (n : ℕ) (mul : MulKind) → n < 2 ^ 32 → n < 2 ^ (pace_of mul * high_cost mul)
+high_enough n Single h = h
+high_enough n Fast h = omega arith
+high_enough n Slow h = h
+
+low_enough : (b : ℕ) (fixed : Bool) (mul : MulKind) → b < 2 ^ 32 → 0 < low_cost mul b fixed → b < 2 ^ (pace_of mul * low_cost mul b fixed)
+low_enough b fixed Single h some = absurd (omega (arith, some))
+low_enough b fixed Fast h some = h
+low_enough b true Slow h some = h
+low_enough b false Slow h some =
+    let once : 1 * significant_bits b ≡ significant_bits b = omega arith in
+    subst (λ (x : ℕ). b < 2 ^ x) (sym once) (width_of_word b h).enough
+
+some_cost : (b second : ℕ) (fixed : Bool) → eqb b 0 ≡ eqb second 0 → second ≢ 0 → division_cost b fixed ≡ 37
+some_cost b second true e ne = refl
+some_cost b second false e ne = rw (e, ne_eqb second 0 ne) refl
+
+answers : (op : MdOp) (a b : ℕ) (fixed : Bool) (mul : MulKind) → a < 2 ^ 32 → b < 2 ^ 32
+    → answer (steps (md_cost_of op b fixed mul) (begun (is_division op) op a b (md_cost_of op b fixed mul) mul)) ≡ md_value op a b
+unfolding md_cost_of operands_of md_value
+answers Mul a b fixed mul fa fb = product_finishes (operands_of Mul a b) (low_cost mul b fixed) mul fa fb (low_enough b fixed mul fb)
+answers Mulh a b fixed mul fa fb =
+    let words = operand_words Mulh a b fa fb in
+    let small : magnitude a * magnitude b < 2 ^ 64 = mul-lt (magnitude a) (magnitude b) (2 ^ 32) (2 ^ 32) words.first words.second in
+    product_finishes (operands_of Mulh a b) (high_cost mul) mul words.first words.second (λ _. high_enough (magnitude b) mul words.second)
+    ∙ ap (λ (x : ℕ). x / 2 ^ 32) (signed_product (signed a) (signed b) small)
+answers Mulhsu a b fixed mul fa fb =
+    let words = operand_words Mulhsu a b fa fb in
+    let small : magnitude a * b < 2 ^ 64 = mul-lt (magnitude a) b (2 ^ 32) (2 ^ 32) words.first words.second in
+    product_finishes (operands_of Mulhsu a b) (high_cost mul) mul words.first words.second (λ _. high_enough b mul words.second)
+    ∙ ap (λ (x : ℕ). x / 2 ^ 32) (mixed_product (signed a) b small)
+answers Mulhu a b fixed mul fa fb = product_finishes (operands_of Mulhu a b) (high_cost mul) mul fa fb (λ _. high_enough b mul fb)
+answers Div a b fixed mul fa fb =
+    let words = operand_words Div a b fa fb in
+    division_finishes (operands_of Div a b) (division_cost b fixed) words.first words.second (some_cost b (magnitude b) fixed (magnitude-zero b fb))
+    ∙ signed_quotient a b fa fb
+answers Divu a b fixed mul fa fb = division_finishes (operands_of Divu a b) (division_cost b fixed) fa fb (some_cost b b fixed refl)
+answers Rem a b fixed mul fa fb =
+    let words = operand_words Rem a b fa fb in
+    division_finishes (operands_of Rem a b) (division_cost b fixed) words.first words.second (some_cost b (magnitude b) fixed (magnitude-zero b fb))
+    ∙ signed_remainder a b fa fb
+answers Remu a b fixed mul fa fb = division_finishes (operands_of Remu a b) (division_cost b fixed) fa fb (some_cost b b fixed refl)
+
+-- ---- the fields
+
+seen-start : (op : MdOp) (a b : ℕ) (fixed : Bool) (mul : MulKind) → a < 2 ^ 32 → b < 2 ^ 32
+    → seen (start_of op a b fixed mul) ≡ begun (is_division op) op a b (md_cost_of op b fixed mul) mul
+unfolding start_of
+seen-start op a b fixed mul fa fb = seen-packed _ (begun_sized op a b (md_cost_of op b fixed mul) mul fa fb (cost_small op b fixed mul))
+
+pub left_of-seen : (m : MulDiv) → left_of m ≡ (seen m).left
+unfolding seen
+left_of-seen m = refl
+
+pub left_of-start : (op : MdOp) (a b : ℕ) (fixed : Bool) (mul : MulKind) → a < 2 ^ 32 → b < 2 ^ 32 → left_of (start_of op a b fixed mul) ≡ md_cost_of op b fixed mul
+left_of-start op a b fixed mul fa fb =
+    left_of-seen (start_of op a b fixed mul) ∙ ap (λ (w : Work). w.left) (seen-start op a b fixed mul fa fb) ∙ begun-left op a b (md_cost_of op b fixed mul) mul
+
+pub start_finishes : (op : MdOp) (a b : ℕ) (fixed : Bool) (mul : MulKind) → a < 2 ^ 32 → b < 2 ^ 32
+    → Finishes (start_of op a b fixed mul) (left_of (start_of op a b fixed mul)) (md_value op a b)
+unfolding Finishes
+start_finishes op a b fixed mul fa fb =
+    rw (left_of-start op a b fixed mul fa fb) (
+    result_of-ticks (md_cost_of op b fixed mul) (start_of op a b fixed mul)
+    ∙ ap (λ (w : Work). answer (steps (md_cost_of op b fixed mul) w)) (seen-start op a b fixed mul fa fb)
+    ∙ answers op a b fixed mul fa fb
+    )
+
+pub left_of-tick : (m : MulDiv) → left_of m ≢ 0 → left_of (tick_of m) + 1 ≡ left_of m
+unfolding step_of
+left_of-tick m ne =
+    let after : left_of (tick_of m) ≡ (seen m).left - 1 = left_of-seen (tick_of m) ∙ ap (λ (w : Work). w.left) (seen-tick m) in
+    omega (arith, after, left_of-seen m, ne)
+
+pub tick_finishes : (m : MulDiv) (value : ℕ) → left_of m ≢ 0 → Finishes m (left_of m) value → Finishes (tick_of m) (left_of (tick_of m)) value
+unfolding Finishes ticks
+tick_finishes m value ne f =
+    let up : left_of m ≡ suc (left_of (tick_of m)) = omega (arith, left_of-tick m ne) in
+    subst (λ (n : ℕ). result_of (ticks n m) ≡ value) up f

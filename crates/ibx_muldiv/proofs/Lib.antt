@@ -1,0 +1,5 @@
+pub mod Cycles
+pub mod Division
+pub mod Fields
+pub mod Products
+pub mod Values

@@ -1,0 +1,179 @@
+ghost use Rattle.std.specs.Prelude.{◌≡◌, ◌<◌, ◌^◌};
+ghost use Rattle.ibx_muldiv.specs.Steps.{answer_of, begun_division, begun_product, divided, division_step, multiplied, negated, step_of, word_of};
+
+use crate::operands::Operands;
+use ibx_isa::MulKind;
+
+/// A calculation in progress.
+#[derive(Clone, Copy)]
+pub struct Work {
+    /// The sum of a product so far, or the partial remainder above the dividend's rest and the quotient's bits.
+    pub sum: u64,
+    /// The first factor, at the place of the multiplier's next bit.
+    pub multiplicand: u64,
+    /// The multiplier's bits that are still to be taken, or the divisor.
+    pub rest: u32,
+    /// Cycles until the result.
+    pub left: u8,
+    /// Bits of the multiplier that a cycle takes.
+    pub pace: u8,
+    pub divides: bool,
+    pub high: bool,
+    pub negate: bool,
+}
+
+impl Work {
+    #[tactic(auto, unfolding(crate::specs::Steps::begun_product))]
+    pub fn product(operands: Operands, left: u8, mul: MulKind) -> Work
+        ensures { result ≡ begun_product operands left mul }
+    {
+        let work = Work {
+            sum: 0,
+            multiplicand: operands.first as u64,
+            rest: operands.second,
+            left,
+            pace: match mul {
+                MulKind::Single => 32,
+                MulKind::Fast => 16,
+                MulKind::Slow => 1,
+            },
+            divides: false,
+            high: operands.high,
+            negate: operands.negate,
+        };
+        if left == 0 { work.multiply(32) } else { work }
+    }
+
+    #[tactic(auto, unfolding(crate::specs::Steps::begun_division))]
+    pub fn division(operands: Operands, left: u8) -> Work
+        ensures { result ≡ begun_division operands left }
+    {
+        let dividend = operands.first as u64;
+        Work {
+            sum: if operands.second == 0 {
+                dividend * 0x1_0000_0000 + 0xffff_ffff
+            } else {
+                dividend
+            },
+            multiplicand: 0,
+            rest: operands.second,
+            left,
+            pace: 0,
+            divides: true,
+            high: operands.high,
+            negate: operands.negate,
+        }
+    }
+
+    /// One cycle.
+    #[tactic(auto, unfolding(crate::specs::Steps::step_of))]
+    pub fn step(self) -> Work
+        requires { 0 < self.left }
+        ensures { result ≡ step_of self }
+    {
+        let next = if self.divides {
+            self.divide()
+        } else {
+            self.multiply(self.pace)
+        };
+        Work {
+            left: self.left - 1,
+            ..next
+        }
+    }
+
+    /// The word that the sum holds as its answer.
+    pub fn answer(self) -> u32
+        ensures { result ≡ answer_of self.divides self.high self.negate self.sum }
+    {
+        if self.divides {
+            let word = word(self.high, self.sum);
+            if self.negate {
+                word.wrapping_neg()
+            } else {
+                word
+            }
+        } else if self.negate {
+            word(self.high, self.sum.wrapping_neg())
+        } else {
+            word(self.high, self.sum)
+        }
+    }
+
+    // Takes so many of the multiplier's lowest bits.
+    #[tactic(auto, using(crate::proofs::Products::taking))]
+    fn multiply(self, bits: u8) -> Work
+        ensures { result ≡ multiplied bits self }
+    {
+        let mut work = self;
+        for _bit in 0..bits {
+            work = work.multiply_bit();
+        }
+        work
+    }
+
+    // Adds the multiplicand where the multiplier's lowest bit is 1.
+    #[tactic(auto, using(crate::proofs::Products::bits), unfolding(crate::specs::Steps::multiplied))]
+    fn multiply_bit(self) -> Work
+        ensures { result ≡ multiplied 1 self }
+    {
+        let multiplicand = self.multiplicand << 1;
+        let rest = self.rest >> 1;
+        if self.rest % 2 == 0 {
+            return Work {
+                multiplicand,
+                rest,
+                ..self
+            };
+        }
+        Work {
+            sum: self.sum.wrapping_add(self.multiplicand),
+            multiplicand,
+            rest,
+            ..self
+        }
+    }
+
+    #[tactic(auto, unfolding(crate::specs::Steps::division_step))]
+    fn divide(self) -> Work
+        ensures { result ≡ division_step self }
+    {
+        if self.rest == 0 || self.left > 32 {
+            self
+        } else {
+            self.divide_bit()
+        }
+    }
+
+    #[tactic(auto, unfolding(crate::specs::Steps::divided))]
+    fn divide_bit(self) -> Work
+        ensures { result ≡ divided self }
+    {
+        let partial = self.sum >> 31;
+        let low = self.sum % 0x8000_0000 * 2;
+        let divisor = self.rest as u64;
+        if divisor <= partial {
+            let remainder = (partial - divisor) % 0x1_0000_0000;
+            Work {
+                sum: remainder * 0x1_0000_0000 + low + 1,
+                ..self
+            }
+        } else {
+            let remainder = partial % 0x1_0000_0000;
+            Work {
+                sum: remainder * 0x1_0000_0000 + low,
+                ..self
+            }
+        }
+    }
+}
+
+fn word(high: bool, sum: u64) -> u32
+    ensures { result ≡ word_of high sum }
+{
+    if high {
+        (sum >> 32) as u32
+    } else {
+        (sum % 0x1_0000_0000) as u32
+    }
+}

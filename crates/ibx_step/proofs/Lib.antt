@@ -1,0 +1,4 @@
+pub mod Lanes
+pub mod Stores
+pub mod Loads
+pub mod Memories

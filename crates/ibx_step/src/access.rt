@@ -1,0 +1,206 @@
+ghost use Rattle.std.specs.Prelude.{◌≡◌, ◌≤◌, ◌<◌, ◌^◌, ◌%◌, Some, None};
+ghost use Rattle.ibx_isa.specs.WellFormed.{IsAccessSize};
+ghost use Rattle.ibx_csr.specs.Fields.{values};
+ghost use Rattle.ibx_csr.specs.Values.{csr_tick};
+ghost use Rattle.ibx_lsu.specs.Portions.{portion_addr, portion_size, size_of};
+ghost use Rattle.ibx_arch.specs.Access.{access_machine, is_refused, refused_at};
+ghost use Rattle.ibx_arch.specs.Effects.{load, store, trap, plain, illegal};
+ghost use Rattle.ibx_step.specs.Words.{memory_of};
+ghost use Rattle.ibx_step.specs.Machines.{state_of, left_in, KeepsPlace, HasRegister, retiring};
+
+use crate::machine::Machine;
+use ibx_arch::{Done, Retirement};
+use ibx_isa::{Access, LoadOp};
+use ibx_lsu::parts;
+use ibx_pmp::{AccessKind, allow};
+
+impl Machine {
+    // Ends an instruction that retires.
+    pub(crate) fn retire(&mut self, retirement: Retirement) -> Done
+        ensures left { left_in result self.new ≡ retiring (state_of self.old) retirement }
+        ensures done { result ≡ Done.Retires retirement }
+        ensures place { KeepsPlace self.old self.new }
+    {
+        self.csrs.tick(true, None);
+        Done::Retires(retirement)
+    }
+
+    // Ends an instruction that writes a register at most.
+    pub(crate) fn plain(&mut self, rd: u8, value: u32, next_pc: u32) -> Done
+        requires { rd < 32 }
+        ensures left { left_in result self.new ≡ plain (state_of self.old) rd value next_pc }
+        ensures place { KeepsPlace self.old self.new }
+        ensures register { HasRegister result }
+    {
+        self.retire(Retirement {
+            rd,
+            value,
+            mem: None,
+            ctl: None,
+            next_pc,
+        })
+    }
+
+    // Ends an instruction that traps.
+    pub(crate) fn trap(&mut self, cause: u8, tval: u32, addr: u32) -> Done
+        ensures left { left_in result self.new ≡ trap (state_of self.old) cause tval addr }
+        ensures place { KeepsPlace self.old self.new }
+        ensures register { HasRegister result }
+    {
+        self.csrs.tick(false, None);
+        Done::Traps { cause, tval, addr }
+    }
+
+    // Ends an illegal instruction.
+    pub(crate) fn illegal(&mut self, word: u32) -> Done
+        ensures left { left_in result self.new ≡ illegal (state_of self.old) word }
+        ensures place { KeepsPlace self.old self.new }
+        ensures register { HasRegister result }
+    {
+        self.trap(2, word, 0)
+    }
+
+    // The mode of loads and stores: true for M.
+    fn access_machine(&self) -> bool
+        ensures { result ≡ access_machine (values self.now.csrs) }
+    {
+        let regs = self.csrs.regs();
+        regs.machine && (regs.mstatus & 0x2_0000 == 0 || regs.mstatus & 0x1800 == 0x1800)
+    }
+
+    // Whether protection refuses a portion of an access.
+    fn is_refused(&self, addr: u32, size: u8, kind: AccessKind, second: bool) -> bool
+        requires { size ≤ 4 }
+        ensures { result ≡ is_refused (state_of self.now) addr size kind second }
+    {
+        let start = portion_start(addr, second);
+        let bytes = portion_bytes(addr, size, second);
+        !allow(
+            &self.protection(),
+            start,
+            bytes,
+            kind,
+            self.access_machine(),
+        )
+    }
+
+    // The byte address of the portion that protection refuses.
+    #[tactic(auto, unfolding(ibx_arch::specs::Access::refused_at))]
+    fn refused(&self, addr: u32, size: u8, kind: AccessKind) -> Option<u32>
+        requires { size ≤ 4 }
+        ensures { result ≡ refused_at (state_of self.now) addr size kind }
+    {
+        if self.is_refused(addr, size, kind, false) {
+            Some(portion_start(addr, false))
+        } else if parts(addr, size) == 2 && self.is_refused(addr, size, kind, true) {
+            Some(portion_start(addr, true))
+        } else {
+            None
+        }
+    }
+
+    // A load of a byte address.
+    #[tactic(auto, unfolding(ibx_arch::specs::Effects::load))]
+    pub(crate) fn load(&mut self, op: LoadOp, rd: u8, addr: u32, next_pc: u32) -> Done
+        requires { rd < 32 }
+        ensures left { left_in result self.new ≡ load (state_of self.old) op rd addr next_pc }
+        ensures place { KeepsPlace self.old self.new }
+        ensures register { HasRegister result }
+    {
+        let size = access_size(op);
+        if let Some(at) = self.refused(addr, size, AccessKind::Read) {
+            return self.trap(5, at, addr);
+        }
+        if let Some(at) = self.storage.error(addr, size) {
+            return self.trap(5, at, addr);
+        }
+        let value = self.storage.load(op, addr);
+        self.retire(Retirement {
+            rd,
+            value,
+            mem: Some(Access {
+                addr,
+                size,
+                store: false,
+                value: 0,
+            }),
+            ctl: None,
+            next_pc,
+        })
+    }
+
+    // A store to a byte address.
+    #[tactic(auto, unfolding(ibx_arch::specs::Effects::store))]
+    pub(crate) fn store(&mut self, size: u8, addr: u32, value: u32, next_pc: u32) -> Done
+        requires { IsAccessSize size }
+        ensures left { left_in result self.new ≡ store (state_of self.old) size addr value next_pc }
+        ensures place { KeepsPlace self.old self.new }
+        ensures register { HasRegister result }
+    {
+        if let Some(at) = self.refused(addr, size, AccessKind::Write) {
+            return self.trap(7, at, addr);
+        }
+        let error = self.storage.error(addr, size);
+        self.storage.store(addr, size, value);
+        if let Some(at) = error {
+            return self.trap(7, at, addr);
+        }
+        self.retire(Retirement {
+            rd: 0,
+            value: 0,
+            mem: Some(Access {
+                addr,
+                size,
+                store: true,
+                value: low_bytes(value, size),
+            }),
+            ctl: None,
+            next_pc,
+        })
+    }
+}
+
+// The byte address of a portion; that of the second is the next word's.
+fn portion_start(addr: u32, second: bool) -> u32
+    ensures { result ≡ portion_addr addr second }
+{
+    if second {
+        (addr - addr % 4).wrapping_add(4)
+    } else {
+        addr
+    }
+}
+
+// The bytes of a portion: those in the first word, and the rest.
+fn portion_bytes(addr: u32, size: u8, second: bool) -> u8
+    ensures { result ≡ portion_size addr size second }
+{
+    let room = (4 - addr % 4) as u8;
+    if second {
+        size.saturating_sub(room)
+    } else {
+        size.min(room)
+    }
+}
+
+fn access_size(op: LoadOp) -> u8
+    ensures value { result ≡ size_of op }
+    ensures most { result ≤ 4 }
+{
+    match op {
+        LoadOp::Lb | LoadOp::Lbu => 1,
+        LoadOp::Lh | LoadOp::Lhu => 2,
+        LoadOp::Lw => 4,
+    }
+}
+
+fn low_bytes(value: u32, size: u8) -> u32
+    requires { IsAccessSize size }
+    ensures { result ≡ value % 256 ^ size }
+{
+    match size {
+        1 => value % 0x100,
+        2 => value % 0x1_0000,
+        _ => value,
+    }
+}

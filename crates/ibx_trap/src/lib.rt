@@ -1,0 +1,8 @@
+//! Traps: the interrupt that is taken, and what a trap and a return from it do to the registers.
+#![tactic(auto)]
+
+mod interrupt;
+mod trap;
+
+pub use interrupt::pending;
+pub use trap::{enter, leave};
