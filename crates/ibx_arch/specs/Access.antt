@@ -1,6 +1,5 @@
 -- Loads and stores: their portions, who may make them, and what they leave (Unprivileged ISA, 2.6; Privileged ISA 1.12, 3.1.6.3 and 3.7).
-use Rattle.std.specs.Prelude.{ℕ, ◌+◌, ◌%◌, ◌^◌, Bool, true, false, not, ◌&&◌, ◌||◌, ◌==◌, if◌then◌else◌, List, [], ◌∷◌, Option, Some, None, bit_and}
-use Rattle.ibx_elf.specs.Search.{first_of, only_if}
+use Rattle.std.specs.Prelude.{ℕ, Bool, true, false, not, ◌&&◌, ◌||◌, ◌==◌, if◌then◌else◌, Option, Some, None, bit_and}
 use Rattle.ibx_csr.specs.Values.{CsrValues, cfg_bytes}
 use Rattle.ibx_lsu.specs.Portions.{parts_of, portion_addr, portion_size}
 use Rattle.ibx_pmp.specs.declared.protection.AccessKind.{AccessKind}

@@ -1,15 +1,13 @@
 -- What each instruction does (Unprivileged ISA, 2.4 to 2.8, 7 and 9; Privileged ISA 1.12, 3.3).
-use Rattle.std.specs.Prelude.{ℕ, ◌+◌, ◌*◌, ◌/◌, ◌%◌, ◌^◌, Bool, true, false, not, ◌&&◌, ◌||◌, ◌==◌, if◌then◌else◌, Option, Some, None, bit_and}
+use Rattle.std.specs.Prelude.{ℕ, ◌+◌, ◌*◌, ◌/◌, ◌%◌, ◌^◌, Bool, true, false, not, ◌||◌, ◌==◌, if◌then◌else◌, Option, Some, None, bit_and}
 use Rattle.ibx_isa.specs.declared.insn.Insn.{Insn}
 use Rattle.ibx_isa.specs.declared.insn.Insn.TheVariants.{Lui, Auipc, Jal, Jalr, Branch, Load, Store, AluImm, Alu, MulDiv, Csr, Fence, FenceI, Ecall, Ebreak, Mret, Wfi}
 use Rattle.ibx_isa.specs.declared.insn.LoadOp.{LoadOp}
 use Rattle.ibx_isa.specs.declared.insn.CsrOp.{CsrOp}
-use Rattle.ibx_isa.specs.declared.event.Access.{Access}
 use Rattle.ibx_isa.specs.Alu.{alu_of, branch_of}
 use Rattle.ibx_isa.specs.Multiply.{md_value}
 use Rattle.ibx_csr.specs.Values.{CsrValues, csr_read, csr_can_write, csr_write, csr_tick, trap_regs, with_trap_regs}
 use Rattle.ibx_lsu.specs.Portions.{loaded, size_of}
-use Rattle.ibx_pmp.specs.declared.protection.AccessKind.{AccessKind}
 use Rattle.ibx_pmp.specs.declared.protection.AccessKind.TheVariants.{Read, Write}
 use Rattle.ibx_trap.specs.Traps.{leave_of}
 use Rattle.ibx_arch.specs.declared.done.Done.{Done}

@@ -1,5 +1,5 @@
 -- The bytes of memory, by their addresses.
-use Rattle.std.specs.Prelude.{ℕ, ◌+◌, ◌-◌, ◌*◌, ◌/◌, ◌%◌, ◌^◌, Bool, ◌&&◌, ◌||◌, nat_le, nat_lt, if◌then◌else◌}
+use Rattle.std.specs.Prelude.{ℕ, ◌+◌, ◌-◌, ◌%◌, ◌^◌, Bool, ◌&&◌, ◌||◌, nat_le, nat_lt, if◌then◌else◌}
 use Rattle.ibx_elf.specs.declared.ram.Ram.{Ram}
 use Rattle.ibx_elf.specs.Image.{Placed, byte_of}
 use Rattle.ibx_elf.specs.Ram.{ram_has}
@@ -34,9 +34,9 @@ offset_from addr a = (a + 2 ^ 32 - addr) % 2 ^ 32
 unfoldable pub with_bytes : Memory → ℕ → ℕ → ℕ → ℕ → Memory
 with_bytes memory addr from to value = record memory {
   byte = λ a.
-    if ram_has memory.ram a && (nat_le from (offset_from addr a) && nat_lt (offset_from addr a) to)
-    then word_byte value (offset_from addr a)
-    else memory.byte a;
+      if ram_has memory.ram a && (nat_le from (offset_from addr a) && nat_lt (offset_from addr a) to)
+      then word_byte value (offset_from addr a)
+      else memory.byte a;
 }
 
 -- the memory of an image, with 0 outside RAM

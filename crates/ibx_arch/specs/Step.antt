@@ -1,8 +1,8 @@
 -- One step of the architecture, as a function of the state, the choice and the cycle.
-use Rattle.std.specs.Prelude.{◌≡◌, ℕ, zero, suc, ◌+◌, ◌*◌, ◌%◌, ◌^◌, Bool, true, false, ◌==◌, if◌then◌else◌, Option, Some, None, bit_and, List, replicate}
+use Rattle.std.specs.Prelude.{ℕ, zero, suc, ◌+◌, ◌*◌, ◌%◌, ◌^◌, Bool, true, false, ◌==◌, if◌then◌else◌, Option, Some, None, bit_and, List, replicate}
 use Rattle.ibx_elf.specs.Image.{Placed}
 use Rattle.ibx_isa.specs.declared.insn.Insn.{Insn}
-use Rattle.ibx_isa.specs.declared.insn.Insn.TheVariants.{Lui, Auipc, Jal, Jalr, Branch, Load, Store, AluImm, Alu, MulDiv, Csr, Fence, FenceI, Ecall, Ebreak, Mret, Wfi}
+use Rattle.ibx_isa.specs.declared.insn.Insn.TheVariants.{Jalr, Branch, Load, Store, AluImm, Alu, MulDiv, Csr, Wfi}
 use Rattle.ibx_isa.specs.declared.event.Event.{Event}
 use Rattle.ibx_isa.specs.declared.event.Event.TheVariants.{Retire, Trap, Irq}
 use Rattle.ibx_csr.specs.Values.{csr_reset, csr_tick, trap_regs, with_trap_regs}

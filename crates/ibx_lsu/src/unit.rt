@@ -9,11 +9,13 @@ use crate::portions::{lanes, parts};
 use ibx_isa::{Access, Req, Rsp};
 use ibx_secded::Code;
 
-/// The load-store unit. Every value of its fields is a state: `ls_state`, from 0 to 7, is how far the access on the
-/// bus has come, and `ls_first` the word of its first part while the second one is due.
+/// The load-store unit: how far an access has come on the bus. Every value of its fields is a state.
 #[derive(Clone, Copy, Debug, PartialEq, Eq)]
 pub struct Lsu {
+    /// 0 with no access, 1 where the first part isn't granted yet, 2 where it is, 3 where the second is due, 4 where
+    /// it isn't granted yet, and 5 where it is. Other values act as 0.
     pub ls_state: u8,
+    /// The word of the first part, from the cycle after its answer until the second part's.
     pub ls_first: u32,
 }
 

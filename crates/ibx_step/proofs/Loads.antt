@@ -1,9 +1,9 @@
 -- A load, by words and by bytes.
-use Rattle.std.proofs.Common.{◌≡◌, ℕ, ◌+◌, ◌-◌, ◌*◌, ◌/◌, ◌%◌, ◌^◌, ◌<◌, ◌≤◌, Bool, true, false, cond, refl, ap, ◌∙◌, arith, inl, inr}
+use Rattle.std.proofs.Common.{◌≡◌, ℕ, ◌+◌, ◌-◌, ◌%◌, ◌^◌, ◌<◌, ◌≤◌, ap, ◌∙◌, arith, inl, inr}
 use Rattle.std.proofs.lemmas.Bool.{cases_lt, lt-ltb, le-ltb}
 use Rattle.ibx_isa.specs.declared.insn.LoadOp.{LoadOp}
 use Rattle.ibx_isa.specs.declared.insn.LoadOp.TheVariants.{Lb, Lh, Lw, Lbu, Lhu}
-use Rattle.ibx_lsu.specs.Portions.{word_byte, pair_byte, gather_of, loaded, size_of}
+use Rattle.ibx_lsu.specs.Portions.{pair_byte, gather_of, loaded, size_of}
 use Rattle.ibx_lsu.proofs.Bytes.{same_bytes}
 use Rattle.ibx_arch.specs.Memory.{Memory, read_byte, read_bytes}
 use Rattle.ibx_step.specs.Words.{HoldsBytes}

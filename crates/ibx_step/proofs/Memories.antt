@@ -1,14 +1,13 @@
 -- Memory as words and as bytes: what a store and an image leave.
-use Rattle.std.proofs.Common.{◌≡◌, ℕ, ◌+◌, ◌-◌, ◌*◌, ◌/◌, ◌%◌, ◌^◌, ◌<◌, ◌≤◌, Bool, true, false, cond, leb, ltb, List, length, get_or, set, refl, sym, ap, ◌∙◌, subst, arith, inl, inr}
+use Rattle.std.proofs.Common.{◌≡◌, ℕ, ◌+◌, ◌-◌, ◌*◌, ◌/◌, ◌%◌, ◌^◌, ◌<◌, ◌≤◌, Bool, true, false, leb, ltb, List, length, get_or, set, refl, sym, ap, ◌∙◌, subst, arith, inl, inr}
 use mathlib.Core.Path.{fun_ext}
 use Rattle.std.proofs.lemmas.List.{get_or_default}
 use Rattle.std.proofs.lemmas.Bool.{cases_Bool, leb-true, ltb-true, and_parts}
-use Rattle.ibx_elf.specs.declared.ram.Ram.{Ram}
-use Rattle.ibx_elf.specs.Ram.{IsRam, ram_has}
+use Rattle.ibx_elf.specs.Ram.{ram_has}
 use Rattle.ibx_elf.specs.Image.{Placed, byte_of}
-use Rattle.ibx_lsu.specs.Portions.{word_byte, lanes_of, is_held, lane_byte}
-use Rattle.ibx_arch.specs.Memory.{Memory, with_bytes, image_memory}
-use Rattle.ibx_step.specs.Words.{Words, IsWhole, byte_in, memory_of, merged_byte, part_from, part_to, part_word}
+use Rattle.ibx_lsu.specs.Portions.{word_byte, lanes_of}
+use Rattle.ibx_arch.specs.Memory.{with_bytes, image_memory}
+use Rattle.ibx_step.specs.Words.{Words, IsWhole, memory_of, merged_byte, part_from, part_to, part_word}
 use Rattle.ibx_step.proofs.Lanes.{merged_is}
 use Rattle.ibx_step.proofs.Stores.{put_byte, put_outside}
 

@@ -1,11 +1,11 @@
 -- A part of a store, by words and by bytes.
-use Rattle.std.proofs.Common.{◌≡◌, ◌≢◌, ℕ, zero, suc, ◌+◌, ◌-◌, ◌*◌, ◌/◌, ◌%◌, ◌^◌, ◌<◌, ◌≤◌, Bool, true, false, cond, leb, ltb, List, length, get_or, refl, sym, ap, ◌∙◌, subst, arith, inl, inr, set, get_or-set_same, get_or-set_other, min}
-use Rattle.std.specs.Prelude.{◌&&◌, slice_set}
+use Rattle.std.proofs.Common.{◌≡◌, ◌≢◌, ℕ, ◌+◌, ◌-◌, ◌*◌, ◌/◌, ◌%◌, ◌^◌, ◌<◌, ◌≤◌, Bool, true, false, cond, leb, ltb, List, length, get_or, refl, arith, inl, inr, set, get_or-set_same, get_or-set_other, min}
+use Rattle.std.specs.Prelude.{◌&&◌}
 use Rattle.std.proofs.lemmas.Bool.{cases_Bool, cases_eq, cases_lt, lt-ltb, le-ltb, le-leb, lt-leb, leb-true, ltb-true, and_parts}
 use Rattle.ibx_elf.specs.declared.ram.Ram.{Ram}
-use Rattle.ibx_elf.specs.Ram.{IsRam, ram_has}
-use Rattle.ibx_lsu.specs.Portions.{word_byte, portion_size, place_of, is_held, lane_byte}
-use Rattle.ibx_step.specs.Words.{Words, IsWhole, byte_in, part_from, part_to, part_word}
+use Rattle.ibx_elf.specs.Ram.{ram_has}
+use Rattle.ibx_lsu.specs.Portions.{word_byte, place_of, is_held, lane_byte}
+use Rattle.ibx_step.specs.Words.{IsWhole, byte_in, part_from, part_to, part_word}
 
 abbrev pub offset : ℕ → ℕ → ℕ
 offset addr a = (a + 2 ^ 32 - addr) % 2 ^ 32

@@ -1,5 +1,5 @@
 -- What a trap and a return from it do to the registers.
-use Rattle.std.specs.Prelude.{ℕ, ◌+◌, ◌*◌, ◌%◌, ◌^◌, Bool, true, ◌&&◌, if◌then◌else◌}
+use Rattle.std.specs.Prelude.{◌≡◌, ◌<◌, ◌-◌, bit_and, ℕ, ◌+◌, ◌*◌, ◌%◌, ◌^◌, Bool, true, ◌&&◌, if◌then◌else◌}
 use Rattle.ibx_isa.specs.declared.trap.TrapRegs.{TrapRegs}
 use Rattle.ibx_trap.specs.Bits.{mie_bit, mpie_bit, mpp_bits, mprv_bit, sync_exc_seen, double_fault_seen, has_some, has_all, cleared, set, set_if}
 
@@ -43,3 +43,12 @@ leave_of r = let machine = has_all r.mstatus mpp_bits in record r {
   mstatus = left_mstatus r.mstatus machine;
   cpuctrl = cleared r.cpuctrl sync_exc_seen;
 }
+
+-- registers that have no bit that a write doesn't keep: mstatus 00221888, mtvec a multiple of 256 and 1,
+-- mepc even, mcause bits 31 and 4:0, cpuctrl 8 bits
+pub record IsKept (r : TrapRegs) : Type 0 where
+  pub mstatus : bit_and r.mstatus (2 ^ 32 - 1 - 0x00221888) ≡ 0
+  pub mtvec : r.mtvec % 256 ≡ 1
+  pub mepc : r.mepc % 2 ≡ 0
+  pub mcause : r.mcause % 2 ^ 31 < 32
+  pub cpuctrl : r.cpuctrl < 2 ^ 8

@@ -1,5 +1,5 @@
-ghost use Rattle.std.specs.Prelude.{◌≡◌};
-ghost use Rattle.ibx_trap.specs.Traps.{enter_of, enter_target, leave_of, entered_mstatus, left_mstatus, excepted};
+ghost use Rattle.std.specs.Prelude.{◌≡◌, ◌<◌, ◌%◌};
+ghost use Rattle.ibx_trap.specs.Traps.{enter_of, enter_target, leave_of, entered_mstatus, left_mstatus, excepted, IsKept};
 
 use ibx_isa::TrapRegs;
 
@@ -28,6 +28,7 @@ const DOUBLE_FAULT_SEEN: u32 = 0x80;
 pub fn enter(r: &TrapRegs, pc: u32, cause: u8, irq: bool, tval: u32) -> (TrapRegs, u32)
     ensures regs { result.0 ≡ enter_of r.now pc cause irq tval }
     ensures target { result.1 ≡ enter_target r.now cause irq }
+    ensures kept { IsKept r.now → pc % 2 ≡ 0 → cause < 32 → IsKept result.0 }
 {
     let base = r.mtvec & 0xffff_ff00;
     let number = cause as u32;
@@ -55,6 +56,7 @@ pub fn enter(r: &TrapRegs, pc: u32, cause: u8, irq: bool, tval: u32) -> (TrapReg
 pub fn leave(r: &TrapRegs) -> (TrapRegs, u32)
     ensures regs { result.0 ≡ leave_of r.now }
     ensures target { result.1 ≡ r.now.mepc }
+    ensures kept { IsKept r.now → IsKept result.0 }
 {
     let machine = r.mstatus & MPP == MPP;
     let after = TrapRegs {

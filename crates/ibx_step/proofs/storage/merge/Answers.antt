@@ -1,4 +1,4 @@
-use Rattle.std.proofs.Common.{◌≡◌, ℕ, refl, arith}
+use Rattle.std.proofs.Common.{refl}
 use Rattle.ibx_step.specs.Words.{merged_byte}
 use Rattle.ibx_step.proofs.Lanes.{four_bytes}
 use Rattle.ibx_step.proofs.storage.merge.Goals as goal

@@ -1,4 +1,4 @@
-use Rattle.std.proofs.Common.{◌≡◌, ◌∙◌}
+use Rattle.std.proofs.Common.{◌∙◌}
 use Rattle.ibx_step.specs.Words.{memory_of}
 use Rattle.ibx_step.proofs.Loads.{loads}
 use Rattle.ibx_step.proofs.storage.Storage.load.Goals as goal

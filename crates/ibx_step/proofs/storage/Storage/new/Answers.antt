@@ -1,6 +1,3 @@
-use Rattle.std.proofs.Common.{◌≡◌, ◌∙◌, sym, subst, arith, vec_len}
-use Rattle.ibx_step.specs.Words.{Words, IsWhole, memory_of}
-use Rattle.ibx_elf.specs.Ram.{IsRam}
 use Rattle.ibx_step.proofs.Memories.{image_is}
 use Rattle.ibx_step.proofs.storage.Storage.new.Goals as goal
 

@@ -1,5 +1,4 @@
-use Rattle.std.proofs.Common.{◌≡◌, ◌∙◌, sym}
-use Rattle.ibx_step.specs.Words.{Words, memory_of}
+use Rattle.std.proofs.Common.{◌∙◌, sym}
 use Rattle.ibx_step.proofs.Memories.{put_in, put_out}
 use Rattle.ibx_step.proofs.storage.Storage.put.Goals as goal
 

@@ -1,0 +1,63 @@
+-- The worked times, computed by the checker: the list (2, 1), (0, 0), and loads that are issued at cycles 0, 4 and 5.
+use Rattle.std.proofs.Common.{◌≡◌, ℕ, Bool, true, false, List, [], ◌∷◌, refl}
+use Rattle.ibx_isa.specs.declared.bus.Req.{Req}
+use Rattle.ibx_plan.specs.declared.site.Wait.{Wait}
+use Rattle.ibx_bus.specs.Memory.{MemoryState}
+use Rattle.ibx_bus.specs.Port.{port_moves}
+use Rattle.ibx_bus.specs.PortTimes.{Call, IsPolite, answered_in, granted_in, issues, trace, trace_of, grant_times, answer_times, grant_time, answer_time, waits_of}
+use Rattle.ibx_bus.specs.Wires.{fetch_wires, no_wires}
+
+abbrev waits : List Wait
+waits = record { grant = 2; answer = 1 } ∷ record { grant = 0; answer = 0 } ∷ []
+
+abbrev call : Req → Call
+call r = record { request = r; memory = record { base = 0; words = [] } }
+
+abbrev asks : Call
+asks = call (fetch_wires 0)
+
+abbrev rests : Call
+rests = call no_wires
+
+abbrev calls : List Call
+calls = asks ∷ asks ∷ asks ∷ rests ∷ asks ∷ asks ∷ asks ∷ asks ∷ rests ∷ rests ∷ []
+
+polite : IsPolite false false (trace_of waits calls)
+unfolding IsPolite trace port_moves
+polite = (
+  λ e. cc,
+  λ e. cc,
+  (
+    λ e. cc,
+    λ e. cc,
+    (
+      λ e. cc,
+      λ e. cc,
+      (
+        λ e. cc,
+        λ e. cc,
+        (
+          λ e. cc,
+          λ e. cc,
+          (λ e. cc, λ e. cc, (λ e. cc, λ e. cc, (λ e. cc, λ e. cc, (λ e. cc, λ e. cc, (λ e. cc, λ e. cc, tt))))),
+        ),
+      ),
+    ),
+  ),
+)
+
+issued : issues 0 false (trace_of waits calls) ≡ 0 ∷ 4 ∷ 5 ∷ []
+unfolding issues trace port_moves
+issued = refl
+
+grant_cycles : granted_in 0 (trace_of waits calls) ≡ 2 ∷ 4 ∷ 7 ∷ []
+unfolding granted_in trace port_moves
+grant_cycles = refl
+
+answer_cycles : answered_in 0 (trace_of waits calls) ≡ 4 ∷ 5 ∷ 9 ∷ []
+unfolding answered_in trace port_moves
+answer_cycles = refl
+
+times : (grant_times waits 0 (0 ∷ 4 ∷ 5 ∷ []) ≡ 2 ∷ 4 ∷ 7 ∷ []) × (answer_times waits 0 (0 ∷ 4 ∷ 5 ∷ []) ≡ 4 ∷ 5 ∷ 9 ∷ [])
+unfolding grant_times answer_times grant_time answer_time waits_of
+times = (refl, refl)

@@ -1,0 +1,7 @@
+pub mod Words
+pub mod Ports
+pub mod Times
+pub mod Steps
+pub mod Order
+pub mod Wires
+mod Examples

@@ -1,0 +1,4 @@
+pub mod Memory
+pub mod Port
+pub mod PortTimes
+pub mod Wires

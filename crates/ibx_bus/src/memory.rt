@@ -1,0 +1,127 @@
+ghost use Rattle.std.specs.Prelude.{◌≡◌, ◌≢◌, ◌<◌, ◌≤◌, ◌^◌, ◌*◌, ◌+◌, ◌%◌, ℕ, IfOk, length, slice_index, bit_xor, true, false};
+ghost use Rattle.ibx_secded.specs.Code.{encode_of};
+ghost use Rattle.ibx_bus.specs.Memory.{MissesHostPage, error_of, is_host_page, is_ram, memory_flip, memory_next, memory_of, word_of};
+ghost use Rattle.ibx_bus.specs.Wires.{IsRequest};
+
+use crate::merge::store;
+use ibx_base::NoMemory;
+use ibx_isa::Req;
+use ibx_secded::Code;
+use std::alloc::Global;
+use std::marker::Model;
+
+/// RAM, as words of 39 bits: `Code<32, 7>` over the words of 32 bits.
+#[derive(Drop)]
+pub struct Memory {
+    base: u32,
+    words: Vec<u64>,
+}
+
+impl Model for Memory {
+    ghost use Rattle.ibx_bus.specs.Memory.{IsMemory, MemoryState};
+
+    ghost Value = { MemoryState };
+
+    ghost view = { λ m. record { base = m.base; words = m.words.items } };
+
+    ghost invariant = { λ m. IsMemory (record { base = m.base; words = m.words.items }) };
+}
+
+/// The codeword of 0.
+#[tactic(auto, using(crate::proofs::Words::zero))]
+pub(crate) fn zero_word() -> u64
+    ensures value { result ≡ encode_of 32 7 0 }
+    ensures fits { result < 2 ^ 39 }
+{
+    0x2a_0000_0000
+}
+
+/// A word with one bit changed.
+#[tactic(auto, using(crate::proofs::Words::flips))]
+pub(crate) fn with_flip(word: u64, bit: u8) -> u64
+    requires bit { bit < 39 }
+    requires fits { word < 2 ^ 39 }
+    ensures value { result ≡ bit_xor word (2 ^ bit) }
+    ensures fits { result < 2 ^ 39 }
+{
+    word ^ (1 << bit)
+}
+
+fn in_host_page(addr: u32) -> bool
+    ensures { result ≡ is_host_page addr }
+{
+    addr >= 0x20000 && addr < 0x21000
+}
+
+/// What a transaction answers with.
+#[derive(Clone, Copy)]
+pub(crate) struct Answer {
+    pub(crate) err: bool,
+    pub(crate) word: u64,
+}
+
+impl Memory {
+    /// RAM from the byte address `base` on, with the codeword of each word of the image. The base is a multiple of 4,
+    /// and RAM doesn't meet the host page. An `Err` means that there was no memory for the words.
+    pub fn new(alloc: Global, image: &[u32], base: u32) -> Result<Memory, NoMemory>
+        requires aligned { base % 4 ≡ 0 }
+        requires ends { base + 4 * length image.now ≤ 2 ^ 32 }
+        requires apart { MissesHostPage base (length image.now) }
+        ensures { IfOk result (λ m. m ≡ memory_of image.now base) }
+    {
+        let words = image
+            .iter()
+            .map(|value| Code::<32, 7>::encode(u64::from(*value)))
+            .collect(alloc)?;
+        Ok(Memory { base, words })
+    }
+
+    /// Changes bit `bit` of word number `word`, counted from the base.
+    pub fn flip(&mut self, word: u32, bit: u8)
+        requires inside { word < length self.old.words }
+        requires bit { bit < 39 }
+        ensures value { self.new ≡ memory_flip self.old word bit }
+        ensures others { (j : ℕ) → j ≢ word → slice_index self.new.words j ≡ slice_index self.old.words j }
+    {
+        let changed = with_flip(self.words[word as usize], bit);
+        self.words[word as usize] = changed;
+    }
+
+    fn in_ram(&self, addr: u32) -> bool
+        ensures value { result ≡ is_ram self.now addr }
+        ensures apart { is_host_page addr ≡ true → result ≡ false }
+    {
+        addr >= self.base && ((addr - self.base) as usize) < 4 * self.words.len()
+    }
+
+    /// Makes a granted transaction.
+    #[tactic(auto, unfolding(crate::specs::Memory::memory_next))]
+    pub(crate) fn access(&mut self, req: &Req) -> Answer
+        requires { IsRequest req.now }
+        ensures err { result.err ≡ error_of self.old req.now }
+        ensures word { result.word ≡ word_of self.old req.now }
+        ensures fits { result.word < 2 ^ 39 }
+        ensures memory { self.new ≡ memory_next self.old req.now }
+        ensures host { is_host_page req.now.addr ≡ true → self.new ≡ self.old }
+    {
+        if !self.in_ram(req.addr) {
+            return Answer {
+                err: !in_host_page(req.addr),
+                word: zero_word(),
+            };
+        }
+        let index = (req.addr - self.base) as usize / 4;
+        let old = self.words[index];
+        if !req.write {
+            return Answer {
+                err: false,
+                word: old,
+            };
+        }
+        self.words[index] = store(req.be, old, req.word);
+        Answer {
+            err: false,
+            word: zero_word(),
+        }
+    }
+}

@@ -1,0 +1,53 @@
+//! Memories of codewords: a memory of any code, and the register file.
+//!
+//! A word is kept as it was put, with the flips made since, and is neither checked nor corrected here.
+#![tactic(auto)]
+
+mod coded;
+mod registers;
+
+ghost use Rattle.std.specs.Prelude.{◌≡◌, ◌<◌, ◌^◌, ℕ, bit_xor};
+
+pub use coded::CodedRam;
+pub use registers::RegFile;
+
+/// A word with one bit changed.
+#[tactic(auto, using(crate::proofs::Flips::changes))]
+fn with_flip(word: u64, bit: u8) -> u64
+    requires { bit < 64 }
+    ensures value { result ≡ bit_xor word (2 ^ bit) }
+    ensures fits { (n : ℕ) → word < 2 ^ n → bit < n → result < 2 ^ n }
+{
+    word ^ (1 << bit)
+}
+
+#[cfg(test)]
+mod tests {
+    use super::*;
+
+    #[test]
+    fn words_are_put_and_flipped(rt: HostRuntime) {
+        let mut ram = CodedRam::<32, 7>::new(rt.alloc(), 4).expect(&rt, "memory");
+        ram.flip(3, 24);
+        ram.put(1, 0x2d_0000_0001);
+        let held = [
+            (0, 0x2a_0000_0000),
+            (1, 0x2d_0000_0001),
+            (3, 0x2a_0100_0000),
+        ];
+        for (i, word) in held {
+            assert_eq!(rt; ram.get(i), word);
+        }
+
+        let tags = CodedRam::<22, 6>::new(rt.alloc(), 1).expect(&rt, "memory");
+        assert_eq!(rt; tags.get(0), 0xa80_0000);
+
+        let mut file = RegFile::new(rt.alloc()).expect(&rt, "memory");
+        for n in [0, 31] {
+            file.put(n, 0x2d_0000_0001);
+            file.flip(n, 38);
+        }
+        assert_eq!(rt; file.get(0), 0x2a_0000_0000);
+        assert_eq!(rt; file.get(31), 0x6d_0000_0001);
+    }
+}
