@@ -1,0 +1,5 @@
+pub mod Lines
+pub mod Digits
+pub mod Steps
+pub mod Flips
+pub mod Entries

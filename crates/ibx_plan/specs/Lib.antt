@@ -1,0 +1,5 @@
+pub mod Names
+pub mod Text
+pub mod Sites
+pub mod Line
+pub mod Plan

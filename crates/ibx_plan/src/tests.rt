@@ -1,0 +1,299 @@
+use crate::{Bounds, FIELDS, Flip, LineKind, PlanFault, Site, Wait, field_named, read, width};
+use std::alloc::{AllocError, Global};
+use std::test::Fail;
+
+// A run of 1,000 cycles over 1 MiB of RAM.
+fn bounds(flips: u32) -> Bounds {
+    Bounds {
+        ram_words: 262_144,
+        flips,
+        cycles: 1000,
+    }
+}
+
+// Why a text is refused; the texts here are short.
+fn fault(alloc: Global, text: &str, flips: u32) -> Option<PlanFault> {
+    if text.len() > 1_000_000 {
+        return Some(PlanFault::Memory);
+    }
+    match read(alloc, text.as_bytes(), &bounds(flips)) {
+        Ok(_) => None,
+        Err(fault) => Some(fault),
+    }
+}
+
+fn repeated(alloc: Global, line: &str, count: u32) -> Result<String, AllocError> {
+    let mut text = String::new(alloc);
+    for _ in 0..count {
+        text.push_str(line)?;
+    }
+    Ok(text)
+}
+
+static REFUSED: [(&str, u32, PlanFault); 45] = [
+    (
+        "flip 0 mem 0 0\nflip 0 mem 0 0\n",
+        1,
+        PlanFault::Line(2, LineKind::Flip),
+    ),
+    ("", 1, PlanFault::NoFlip),
+    (
+        "iwait 1 0\n\nflip 1 reg 1 0\n",
+        0,
+        PlanFault::Line(3, LineKind::Flip),
+    ),
+    ("iwait 256 0", 0, PlanFault::Line(1, LineKind::Range)),
+    ("iwait 1", 0, PlanFault::Line(1, LineKind::Word)),
+    ("iwait a 0", 0, PlanFault::Line(1, LineKind::Number)),
+    ("irq 5 8\nirq 5 0", 0, PlanFault::Line(2, LineKind::Order)),
+    (
+        "flip 0 mem 262144 0",
+        1,
+        PlanFault::Line(1, LineKind::Range),
+    ),
+    // A carriage return is dropped before a line feed alone, and one only.
+    ("irq 1 8\r", 0, PlanFault::Line(1, LineKind::Number)),
+    ("irq 1 8\r\r\n", 0, PlanFault::Line(1, LineKind::Number)),
+    ("\r", 0, PlanFault::Line(1, LineKind::Word)),
+    // Empty lines and comments are counted.
+    (
+        "# one\n \t\n\niwait 0 0 0",
+        0,
+        PlanFault::Line(4, LineKind::Word),
+    ),
+    ("IWAIT 0 0", 0, PlanFault::Line(1, LineKind::Word)),
+    ("dwait 0 0 #", 0, PlanFault::Line(1, LineKind::Word)),
+    // Numbers.
+    ("irq 00000000001 0", 0, PlanFault::Line(1, LineKind::Number)),
+    ("irq 0x 0", 0, PlanFault::Line(1, LineKind::Number)),
+    ("irq 0X1 0", 0, PlanFault::Line(1, LineKind::Number)),
+    ("irq 0x000000001 0", 0, PlanFault::Line(1, LineKind::Number)),
+    ("irq -1 0", 0, PlanFault::Line(1, LineKind::Number)),
+    ("irq 0x1g 0", 0, PlanFault::Line(1, LineKind::Number)),
+    ("irq 1000000001 0", 0, PlanFault::Line(1, LineKind::Range)),
+    ("irq 0 1", 0, PlanFault::Line(1, LineKind::Range)),
+    ("dwait 0 9999999999", 0, PlanFault::Line(1, LineKind::Range)),
+    // The first kind that holds decides.
+    (
+        "flip x main nothing 0",
+        1,
+        PlanFault::Line(1, LineKind::Word),
+    ),
+    (
+        "flip 9999 reg 32 x",
+        1,
+        PlanFault::Line(1, LineKind::Number),
+    ),
+    ("irq 5 8\nirq 4 1", 0, PlanFault::Line(2, LineKind::Range)),
+    ("flip 0 reg 0 0", 0, PlanFault::Line(1, LineKind::Range)),
+    // A flip's ranges.
+    ("flip 1000 reg 1 0", 1, PlanFault::Line(1, LineKind::Range)),
+    (
+        "flip 0 main f_busy 1",
+        1,
+        PlanFault::Line(1, LineKind::Range),
+    ),
+    (
+        "flip 0 shadow pmpaddr15_n 32",
+        1,
+        PlanFault::Line(1, LineKind::Range),
+    ),
+    (
+        "flip 0 delay 2 mul 0",
+        1,
+        PlanFault::Line(1, LineKind::Range),
+    ),
+    (
+        "flip 0 delay 1 age 0",
+        1,
+        PlanFault::Line(1, LineKind::Range),
+    ),
+    (
+        "flip 0 delay 0 rega 39",
+        1,
+        PlanFault::Line(1, LineKind::Range),
+    ),
+    ("flip 0 reg 32 0", 1, PlanFault::Line(1, LineKind::Range)),
+    ("flip 0 reg 1 39", 1, PlanFault::Line(1, LineKind::Range)),
+    ("flip 0 tag 256 0 0", 1, PlanFault::Line(1, LineKind::Range)),
+    ("flip 0 tag 0 2 0", 1, PlanFault::Line(1, LineKind::Range)),
+    ("flip 0 tag 0 0 28", 1, PlanFault::Line(1, LineKind::Range)),
+    (
+        "flip 0 data 0 0 2 0",
+        1,
+        PlanFault::Line(1, LineKind::Range),
+    ),
+    (
+        "flip 0 data 0 0 0 39",
+        1,
+        PlanFault::Line(1, LineKind::Range),
+    ),
+    ("flip 0 data 0 0 0", 1, PlanFault::Line(1, LineKind::Word)),
+    ("flip 0 out tag0 28", 1, PlanFault::Line(1, LineKind::Range)),
+    ("flip 0 out mul 0", 1, PlanFault::Line(1, LineKind::Word)),
+    ("flip 0 answer 2 0", 1, PlanFault::Line(1, LineKind::Range)),
+    ("flip 0 mem 0 39", 1, PlanFault::Line(1, LineKind::Range)),
+];
+
+fn refused() -> &'static [(&'static str, u32, PlanFault)] {
+    &REFUSED
+}
+
+#[test]
+fn refused_texts(rt: HostRuntime) -> Result<(), Fail> {
+    for row in refused() {
+        assert_eq!(rt; fault(rt.alloc(), row.0, row.1), Some(row.2), "{:?}", row.0);
+    }
+    let most = repeated(rt.alloc(), "iwait 0 0\n", 65_536)?;
+    assert_eq!(rt; fault(rt.alloc(), most.as_str(), 0), None);
+    let many = repeated(rt.alloc(), "dwait 0 0\n", 65_537)?;
+    assert_eq!(rt;
+        fault(rt.alloc(), many.as_str(), 0),
+        Some(PlanFault::TooMany(65_537))
+    );
+    Ok(())
+}
+
+static FLIPS: [(&str, Site); 11] = [
+    (
+        "flip 999 main id_word 15",
+        Site::Main { field: 20, bit: 15 },
+    ),
+    (
+        "flip 999 shadow md_acc 63",
+        Site::Shadow { field: 26, bit: 63 },
+    ),
+    (
+        "flip 999 delay 1 irsp_valid 0",
+        Site::Delay {
+            slot: 1,
+            wire: 0,
+            bit: 0,
+        },
+    ),
+    (
+        "flip 999 delay 0 age 1",
+        Site::Delay {
+            slot: 0,
+            wire: 36,
+            bit: 1,
+        },
+    ),
+    ("flip 999 reg 31 38", Site::Reg { n: 31, bit: 38 }),
+    (
+        "flip 999 tag 255 1 27",
+        Site::Tag {
+            set: 255,
+            way: 1,
+            bit: 27,
+        },
+    ),
+    (
+        "flip 999 data 255 1 0 38",
+        Site::Line {
+            set: 255,
+            way: 1,
+            half: 0,
+            bit: 38,
+        },
+    ),
+    ("flip 999 out data1 38", Site::Output { wire: 5, bit: 38 }),
+    ("flip 999 answer 1 38", Site::Answer { port: 1, bit: 38 }),
+    (
+        "flip 999 mem 262143 38",
+        Site::Mem {
+            word: 262_143,
+            bit: 38,
+        },
+    ),
+    ("flip 0x3E7 mem 0 0x0\r\n", Site::Mem { word: 0, bit: 0 }),
+];
+
+fn flips() -> &'static [(&'static str, Site)] {
+    &FLIPS
+}
+
+#[test]
+fn accepted_texts(rt: HostRuntime) -> Result<(), Fail> {
+    for row in flips() {
+        let text = row.0;
+        assert!(rt; text.len() < 1000);
+        let plan = read(rt.alloc(), text.as_bytes(), &bounds(1))
+            .ok()
+            .ok_or("refused")?;
+        assert_eq!(rt;
+            plan.flip(),
+            Some(Flip {
+                cycle: 999,
+                site: row.1
+            }),
+            "{text}"
+        );
+        assert!(rt; row.1.fits(262_144));
+    }
+    let text =
+        b"iwait 2 1\r\n dwait\t0xfF  0000000255 \n#irq 1 8\nirq 3 8\niwait 0 0\nirq 0x10 0x7fff0888";
+    let plan = read(rt.alloc(), text, &bounds(0)).ok().ok_or("refused")?;
+    let (first, second) = (
+        Wait {
+            grant: 2,
+            answer: 1,
+        },
+        Wait {
+            grant: 0,
+            answer: 0,
+        },
+    );
+    assert_eq!(rt; plan.iwaits(), [first, second].as_slice());
+    assert_eq!(rt;
+        plan.dwaits(),
+        [Wait {
+            grant: 255,
+            answer: 255
+        }]
+        .as_slice()
+    );
+    for (cycle, lines) in [
+        (2, 0),
+        (3, 8),
+        (15, 8),
+        (16, 0x7fff_0888),
+        (u64::MAX, 0x7fff_0888),
+    ] {
+        assert_eq!(rt; plan.lines(cycle), lines);
+    }
+    assert_eq!(rt; plan.flip(), None);
+    Ok(())
+}
+
+static FIELD_ROWS: [(&str, u8, u8); 14] = [
+    ("f_busy", 0, 1),
+    ("buf0", 4, 33),
+    ("c_walk", 15, 9),
+    ("id_valid", 17, 1),
+    ("md_a", 24, 64),
+    ("ls_state", 27, 3),
+    ("lfsr", 29, 32),
+    ("priv", 32, 1),
+    ("mcycle", 42, 64),
+    ("pmpcfg0", 44, 32),
+    ("pmpaddr0", 48, 32),
+    ("mstatus_n", 64, 32),
+    ("pmpcfg0_n", 67, 32),
+    ("pmpaddr15_n", 86, 32),
+];
+
+fn field_rows() -> &'static [(&'static str, u8, u8)] {
+    &FIELD_ROWS
+}
+
+#[test]
+fn fields_by_name(rt: HostRuntime) {
+    for row in field_rows() {
+        assert_eq!(rt; field_named(row.0), Some(row.1), "{}", row.0);
+        assert!(rt; row.1 < FIELDS);
+        assert_eq!(rt; width(row.1), row.2, "{}", row.0);
+    }
+    assert_eq!(rt; field_named("pmpaddr16"), None);
+    assert_eq!(rt; field_named(""), None);
+}

@@ -1,0 +1,3 @@
+pub mod Rams
+pub mod Pieces
+pub mod Steps

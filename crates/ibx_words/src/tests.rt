@@ -1,0 +1,110 @@
+use crate::{Command, Options, Run, read_words};
+use ibx_elf::Ram;
+use std::alloc::Global;
+use std::test::Fail;
+
+const CYCLES: u64 = 1_000_000;
+
+const BASE: u32 = 0x0010_0000;
+
+const SIZE: u32 = 1_048_576;
+
+/// The words of a line, between its spaces.
+fn words_of(alloc: Global, line: &str) -> Result<Vec<String>, Fail> {
+    let mut words = Vec::new(alloc);
+    for word in line.split(' ') {
+        words.push(String::from_str(alloc, word)?)?;
+    }
+    Ok(words)
+}
+
+fn run(file: &str, cycles: u64, base: u32, size: u32) -> Command<'_> {
+    Command::Run(Run {
+        file,
+        options: Options {
+            cycles,
+            ram: Ram { base, size },
+        },
+    })
+}
+
+#[test]
+fn reads_what_fits(rt: HostRuntime) -> Result<(), Fail> {
+    let rows = [
+        ("run a", run("a", CYCLES, BASE, SIZE)),
+        ("run a --cycles 1", run("a", 1, BASE, SIZE)),
+        (
+            "run --cycles 1000000000 a.elf",
+            run("a.elf", 1_000_000_000, BASE, SIZE),
+        ),
+        ("run a --cycles 0xFfFf", run("a", 65_535, BASE, SIZE)),
+        ("run a --cycles 0000000007", run("a", 7, BASE, SIZE)),
+        (
+            "run --ram-size 0x20000 a --ram-base 0",
+            run("a", CYCLES, 0, 131_072),
+        ),
+        (
+            "run a --ram-base 0x21000",
+            run("a", CYCLES, 0x0002_1000, SIZE),
+        ),
+        (
+            "run a --ram-base 4293918720",
+            run("a", CYCLES, 0xFFF0_0000, SIZE),
+        ),
+        ("run a --ram-size 4096", run("a", CYCLES, BASE, 4_096)),
+        (
+            "run --ram-size 16777216 --cycles 2 --ram-base 0x80000000 b",
+            run("b", 2, 0x8000_0000, 16_777_216),
+        ),
+    ];
+    for (line, command) in rows {
+        let words = words_of(rt.alloc(), line)?;
+        assert_eq!(rt; read_words(words.as_slice()), Some(command), "at {line}");
+    }
+    Ok(())
+}
+
+#[test]
+fn refuses_what_does_not_fit(rt: HostRuntime) -> Result<(), Fail> {
+    let lines = [
+        "",
+        "run",
+        "run a b",
+        "run a --cycles 0",
+        "run a --cycles",
+        "fly a",
+        "run a --ram-size 4095",
+        "inject a",
+        "Run a",
+        "--cycles 5 run a",
+        "run  a",
+        "run a ",
+        "run -a",
+        "run - a",
+        "run --cycles a",
+        "run a --cycles 5 --cycles 5",
+        "run a --cycles -5",
+        "run a --cycles 1000000001",
+        "run a --cycles 00000000001",
+        "run a --cycles 0x",
+        "run a --cycles 0X10",
+        "run a --cycles 0x100000000",
+        "run a --cycle 5",
+        "run a --mul fast",
+        "run a --plan p",
+        "run a --ram-base 0",
+        "run a --ram-base 0 --ram-size 0x21000",
+        "run a --ram-base 0x20000",
+        "run a --ram-base 0x80000800",
+        "run a --ram-base 0xFFF01000",
+        "run a --ram-base 4294967296",
+        "run a --ram-size 0",
+        "run a --ram-size 16781312",
+    ];
+    for line in lines {
+        let words = words_of(rt.alloc(), line)?;
+        assert!(rt; read_words(words.as_slice()).is_none(), "at {line}");
+    }
+    assert!(rt; read_words(&[]).is_none());
+    Ok(())
+}
