@@ -1,5 +1,4 @@
 pub mod Lines
-pub mod Digits
 pub mod Steps
 pub mod Flips
 pub mod Entries

@@ -1,7 +1,0 @@
-use Rattle.std.proofs.Common.{◌≡◌, ◌<◌, ◌^◌, drop}
-use Rattle.ibx_plan.specs.Text.{value_in}
-use Rattle.ibx_plan.proofs.Digits.{read_on}
-use Rattle.ibx_plan.proofs.number.value_in.Given as goal
-
-abbrev pub invariant-loop-byte : goal.invariant-loop-byte
-invariant-loop-byte l = (l.value < 16 ^ l.byte-index) × (value_in l.base l.digits ≡ read_on l.base l.value (drop l.byte-index l.digits))
