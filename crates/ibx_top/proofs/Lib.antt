@@ -1,0 +1,5 @@
+pub mod DecimalLemmas
+pub mod Gains
+pub mod Running
+pub mod EndLemmas
+pub mod ByCode

@@ -1,0 +1,57 @@
+-- The lines on the error output, each as its bytes with the line feed (our own rule).
+use Rattle.std.specs.Prelude.{ℕ, List, [], ◌∷◌, ◌++◌, codes, flat_map}
+use Rattle.std.specs.Fmt.{decimal}
+use Rattle.ibx_elf.specs.declared.fault.ElfFault.{ElfFault}
+use Rattle.ibx_elf.specs.declared.fault.ElfFault.TheVariants.{Short, Magic, Class, Order, Version, Kind, Machine, Headers, TooMany, Segment, OutsideRam, Overlap, Entry}
+
+abbrev pub bad_words_line : List ℕ
+bad_words_line = codes "ibex: bad words\n"
+
+abbrev pub cannot_read_line : List ℕ → List ℕ
+cannot_read_line name = codes "ibex: cannot read " ++ name ++ codes "\n"
+
+abbrev pub cannot_write_line : List ℕ
+cannot_write_line = codes "ibex: cannot write\n"
+
+abbrev pub too_long_line : List ℕ → List ℕ
+too_long_line name = codes "ibex: " ++ name ++ codes ": too long\n"
+
+abbrev pub out_of_memory_line : List ℕ
+out_of_memory_line = codes "ibex: out of memory\n"
+
+abbrev pub not_built_line : List ℕ
+not_built_line = codes "ibex: not built\n"
+
+-- the number of a fault, in the order in which they are looked for
+unfoldable pub fault_number : ElfFault → ℕ
+fault_number Short = 1
+fault_number Magic = 2
+fault_number Class = 3
+fault_number Order = 4
+fault_number Version = 5
+fault_number Kind = 6
+fault_number Machine = 7
+fault_number Headers = 8
+fault_number TooMany = 9
+fault_number (Segment i) = 10
+fault_number (OutsideRam i) = 11
+fault_number (Overlap i j) = 12
+fault_number Entry = 13
+
+-- the program headers that a fault names
+unfoldable pub fault_indices : ElfFault → List ℕ
+fault_indices (Segment i) = i ∷ []
+fault_indices (OutsideRam i) = i ∷ []
+fault_indices (Overlap i j) = i ∷ j ∷ []
+fault_indices _ = []
+
+-- a number after a space
+abbrev pub spaced : ℕ → List ℕ
+spaced n = codes " " ++ decimal n
+
+-- what the line of a fault has after the file's name
+unfoldable pub fault_text : ElfFault → List ℕ
+fault_text fault = codes ": elf fault" ++ spaced (fault_number fault) ++ flat_map spaced (fault_indices fault) ++ codes "\n"
+
+abbrev pub fault_line : List ℕ → ElfFault → List ℕ
+fault_line name fault = codes "ibex: " ++ name ++ fault_text fault

@@ -1,0 +1,5 @@
+pub mod Stories
+pub mod Texts
+pub mod ErrLines
+pub mod Answers
+pub mod Ends

@@ -1,0 +1,53 @@
+-- What a run comes to: the steps of the architecture from reset on. The budget and the halting store are our own rules.
+use Rattle.std.specs.Prelude.{ℕ, zero, suc, ◌%◌, Bool, true, false, ◌&&◌, ◌==◌, List, [], ◌∷◌, Option, Some, None}
+use Rattle.ibx_isa.specs.declared.event.Access.{Access}
+use Rattle.ibx_isa.specs.declared.event.Event.{Event}
+use Rattle.ibx_isa.specs.declared.event.Event.TheVariants.{Retire, Trap, Irq}
+use Rattle.ibx_elf.specs.Image.{image_of}
+use Rattle.ibx_words.specs.declared.command.Options.{Options}
+use Rattle.ibx_arch.specs.State.{State}
+use Rattle.ibx_arch.specs.Step.{Stepped, present_step, reset_state}
+use Rattle.ibx_top.specs.declared.run.Ending.{Ending}
+use Rattle.ibx_top.specs.declared.run.Ending.TheVariants.{Halted, Spent, NotBuilt}
+
+-- the events of a run in order, and how it ended
+pub record Story : Type 0 where
+  pub events : List Event
+  pub ending : Ending
+
+-- a store of a word to 0x00020008 whose value has bit 0 set
+abbrev pub is_halting : Option Access → Bool
+is_halting None = false
+is_halting (Some access) = access.store && access.size == 4 && access.addr == 0x00020008 && access.value % 2 == 1
+
+-- whether an event ends the run: such a store that retired
+abbrev pub halts : Event → Bool
+halts (Retire cycle pc word rd value mem ctl ops) = is_halting mem
+halts (Trap cycle pc word cause tval addr) = false
+halts (Irq cycle pc cause) = false
+
+abbrev pub no_events : Ending → Story
+no_events ending = record { events = []; ending = ending }
+
+-- a story with an event in front
+abbrev pub with_event : Event → Story → Story
+with_event event rest = record { events = event ∷ rest.events; ending = rest.ending }
+
+-- the story that begins with a step: a halting event is its last one, and else the rest begins in the next state
+unfoldable pub story_after : Bool → Stepped → (State → Story) → Story
+story_after true stepped rest = with_event stepped.event (no_events Halted)
+story_after false stepped rest = with_event stepped.event (rest stepped.next)
+
+-- the same, and no event where there is no step
+unfoldable pub story_by : Option Stepped → (State → Story) → Story
+story_by None rest = no_events NotBuilt
+story_by (Some stepped) rest = story_after (halts stepped.event) stepped rest
+
+-- The story of at most so many events from a state on, the first of which has this index.
+unfoldable pub story : ℕ → State → ℕ → Story
+story zero s index = no_events Spent
+story (suc budget) s index = story_by (present_step s index) (λ next. story budget next (suc index))
+
+-- the story of a file's bytes, from reset on
+unfoldable pub story_of : Options → List ℕ → Story
+story_of options bytes = story options.cycles (reset_state (image_of bytes options.ram)) 0

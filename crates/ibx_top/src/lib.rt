@@ -1,0 +1,9 @@
+//! The whole program: its words, its file, its run and its answers.
+#![tactic(auto)]
+
+mod ends;
+mod faults;
+mod run;
+mod top;
+
+pub use top::ibex;
