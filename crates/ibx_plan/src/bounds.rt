@@ -1,5 +1,5 @@
 /// What a plan may say in one run.
-#[derive(Clone, Copy, Debug, PartialEq, Eq)]
+#[derive(Clone, Copy)]
 pub struct Bounds {
     /// The words of RAM; a flip of a RAM word names one below it.
     pub ram_words: u32,

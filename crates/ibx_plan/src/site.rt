@@ -9,7 +9,7 @@ pub struct Wait {
 }
 
 /// One bit of the machine's state or wires; `bit` is counted from the lowest.
-#[derive(Clone, Copy, Debug, PartialEq, Eq)]
+#[derive(Clone, Copy, PartialEq, Eq)]
 pub enum Site {
     /// A field of the main core, by its number below `FIELDS`.
     Main { field: u8, bit: u8 },
@@ -64,7 +64,7 @@ impl Site {
 }
 
 /// A change of one bit at the start of a clock cycle.
-#[derive(Clone, Copy, Debug, PartialEq, Eq)]
+#[derive(Clone, Copy, PartialEq, Eq)]
 pub struct Flip {
     pub cycle: u64,
     pub site: Site,

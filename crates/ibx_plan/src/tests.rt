@@ -1,4 +1,6 @@
-use crate::{Bounds, FIELDS, Flip, LineKind, PlanFault, Site, Wait, field_named, read, width};
+use crate::{
+    Bounds, FIELDS, Flip, LineKind, Plan, PlanFault, Site, Wait, field_named, read, width,
+};
 use std::alloc::{AllocError, Global};
 use std::test::Fail;
 
@@ -213,28 +215,47 @@ fn flips() -> &'static [(&'static str, Site)] {
     &FLIPS
 }
 
+// The flip of a text that is accepted.
+fn flip_of(alloc: Global, text: &str) -> Option<Flip> {
+    if text.len() > 1_000_000 {
+        return None;
+    }
+    match read(alloc, text.as_bytes(), &bounds(1)) {
+        Ok(plan) => plan.flip(),
+        Err(_) => None,
+    }
+}
+
+fn lists(alloc: Global) -> Option<Plan> {
+    let text =
+        b"iwait 2 1\r\n dwait\t0xfF  0000000255 \n#irq 1 8\nirq 3 8\niwait 0 0\nirq 0x10 0x7fff0888";
+    read(alloc, text, &bounds(0)).ok()
+}
+
+static LINES: [(u64, u32); 5] = [
+    (2, 0),
+    (3, 8),
+    (15, 8),
+    (16, 0x7fff_0888),
+    (u64::MAX, 0x7fff_0888),
+];
+
+fn line_rows() -> &'static [(u64, u32)] {
+    &LINES
+}
+
 #[test]
 fn accepted_texts(rt: HostRuntime) -> Result<(), Fail> {
     for row in flips() {
-        let text = row.0;
-        assert!(rt; text.len() < 1000);
-        let plan = read(rt.alloc(), text.as_bytes(), &bounds(1))
-            .ok()
-            .ok_or("refused")?;
-        assert_eq!(rt;
-            plan.flip(),
-            Some(Flip {
-                cycle: 999,
-                site: row.1
-            }),
-            "{text}"
-        );
-        assert!(rt; row.1.fits(262_144));
+        let flip = Flip {
+            cycle: 999,
+            site: row.1,
+        };
+        assert!(rt; flip_of(rt.alloc(), row.0) == Some(flip), "{}", row.0);
+        assert!(rt; row.1.fits(262_144), "{}", row.0);
     }
-    let text =
-        b"iwait 2 1\r\n dwait\t0xfF  0000000255 \n#irq 1 8\nirq 3 8\niwait 0 0\nirq 0x10 0x7fff0888";
-    let plan = read(rt.alloc(), text, &bounds(0)).ok().ok_or("refused")?;
-    let (first, second) = (
+    let plan = lists(rt.alloc()).ok_or("refused")?;
+    let iwaits = [
         Wait {
             grant: 2,
             answer: 1,
@@ -243,26 +264,17 @@ fn accepted_texts(rt: HostRuntime) -> Result<(), Fail> {
             grant: 0,
             answer: 0,
         },
-    );
-    assert_eq!(rt; plan.iwaits(), [first, second].as_slice());
-    assert_eq!(rt;
-        plan.dwaits(),
-        [Wait {
-            grant: 255,
-            answer: 255
-        }]
-        .as_slice()
-    );
-    for (cycle, lines) in [
-        (2, 0),
-        (3, 8),
-        (15, 8),
-        (16, 0x7fff_0888),
-        (u64::MAX, 0x7fff_0888),
-    ] {
-        assert_eq!(rt; plan.lines(cycle), lines);
+    ];
+    let dwaits = [Wait {
+        grant: 255,
+        answer: 255,
+    }];
+    assert!(rt; plan.iwaits() == iwaits.as_slice());
+    assert!(rt; plan.dwaits() == dwaits.as_slice());
+    for row in line_rows() {
+        assert_eq!(rt; plan.lines(row.0), row.1);
     }
-    assert_eq!(rt; plan.flip(), None);
+    assert!(rt; plan.flip().is_none());
     Ok(())
 }
 
