@@ -24,7 +24,6 @@ is_code (TooLong name) = refl
 is_code (Refused name fault) = refl
 is_code OutOfMemory = refl
 
-
 -- status 2 is that of words that don't fit
 pub bad_words_by : (end : End) (P : Type 0) → code_of end ≡ 2 → IfBadWords end P → P
 bad_words_by BadWords P e h = h
@@ -154,7 +153,7 @@ settled_answer : (told : Option Contents) (name : List ℕ) (options : Options) 
     → (other : List ℕ) → IsTold told name other → Answers (answer_of name options other) code before after
 settled_answer told name options end code before after e (bytes, (content, settles)) other is_told =
     subst (λ (bs : List ℕ). Answers (answer_of name options bs) code before after) (same_bytes told name bytes other content is_told)
-        (record { status = e ∙ settles.code; text = settles.text })
+    (record { status = e ∙ settles.code; text = settles.text })
 
 no_bad_words : (end : End) (meaning : Meaning) (B : Type 0) → IfBadWords end ((Some meaning ≡ None) × B) → IfBadWords end ⊥
 no_bad_words (Ran Halted) meaning B h = tt

@@ -88,8 +88,8 @@ pub cut_short_by : (end : End) (options : Options) (bytes : List ℕ) (before af
 unfolding story_of
 cut_short_by end options bytes before after fits well =
     if_unwritten-weaker end (TookPrefix before (story_text options.cycles (story options.cycles (reset_state (image_of bytes options.ram)) 0)) after)
-        (IsCutShort options bytes before after)
-        (λ h. record { fits = fits; well_formed = well; text = h })
+    (IsCutShort options bytes before after)
+    (λ h. record { fits = fits; well_formed = well; text = h })
 
 -- an end that wrote nothing is a refusal
 pub settles_refusal : (answer : Answer) (end : End) (line : List ℕ) (before : Option (List ℕ)) → answer ≡ refusal line → code_of end ≡ 5 → err_line_of end ≡ line → Settles answer end before before

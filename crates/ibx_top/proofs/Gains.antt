@@ -51,8 +51,8 @@ pub cut : {before now after : Option (List ℕ)} {whole : List ℕ} (piece rest 
 cut {before} {now} {after} {whole} piece rest so_far (n, (within, took)) =
     let gained : List ℕ = so_far.gained in
     let front : gained ++ take n piece ≡ take (length gained + n) whole =
-      ap (λ (l : List ℕ). gained ++ l) (sym (take-append-le n piece rest within))
-      ∙ sym (take-append-add gained (piece ++ rest) n) ∙ ap (take (length gained + n)) so_far.text
+    ap (λ (l : List ℕ). gained ++ l) (sym (take-append-le n piece rest within))
+    ∙ sym (take-append-add gained (piece ++ rest) n) ∙ ap (take (length gained + n)) so_far.text
     in (
       length gained + n,
       (

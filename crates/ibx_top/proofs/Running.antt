@@ -88,7 +88,7 @@ starts budget start before = record {
   count = zero-add budget;
   text =
       subst (λ (rest : List ℕ). SoFar before before rest (story_text budget (story budget start 0))) (sym (text_from-start budget (story budget start 0)))
-          (begun before (story_text budget (story budget start 0)));
+      (begun before (story_text budget (story budget start 0)));
   ending = refl;
 }
 
@@ -139,7 +139,7 @@ pub halting : {budget : ℕ} {start : State} {before now : Option (List ℕ)} {s
 halting {budget} {start} {before} {now} {s} {next} {index} {event} run within e h =
     let (less, (one, count)) = one_left index run.left budget run.count within in
     let rest : story run.left s index ≡ with_event event (no_events Halted) =
-      ap (λ (n : ℕ). story n s index) one ∙ story_halts less index s (record { event = event; next = next }) e h
+    ap (λ (n : ℕ). story n s index) one ∙ story_halts less index s (record { event = event; next = next }) e h
     in record {
       text = from_here budget index (story run.left s index) (with_event event (no_events Halted)) (line_of event ++ end_line_of true (index + 1) (index + 1)) rest
           (text_from-with_event budget index event (no_events Halted) ∙ ap (λ (t : List ℕ). line_of event ++ t) (text_from-halted budget index)) run.text;
@@ -153,15 +153,15 @@ pub goes_on : {budget : ℕ} {start : State} {before now after : Option (List �
 goes_on {budget} {start} {before} {now} {after} {s} {next} {index} {event} run within e h wrote =
     let (less, (one, count)) = one_left index run.left budget run.count within in
     let rest : story run.left s index ≡ with_event event (story less next (index + 1)) =
-      ap (λ (n : ℕ). story n s index) one ∙ story_goes_on less index s (record { event = event; next = next }) e h
+    ap (λ (n : ℕ). story n s index) one ∙ story_goes_on less index s (record { event = event; next = next }) e h
     in record {
       left = less;
       count = count;
       text =
           more (line_of event) (text_from budget (index + 1) (story less next (index + 1)))
-              (from_here budget index (story run.left s index) (with_event event (story less next (index + 1))) (line_of event ++ text_from budget (index + 1) (story less next (index + 1))) rest
-                  (text_from-with_event budget index event (story less next (index + 1))) run.text)
-              wrote;
+          (from_here budget index (story run.left s index) (with_event event (story less next (index + 1))) (line_of event ++ text_from budget (index + 1) (story less next (index + 1))) rest
+          (text_from-with_event budget index event (story less next (index + 1))) run.text)
+          wrote;
       ending = sym (ap (λ (r : Story). r.ending) rest) ∙ run.ending;
     }
 
@@ -173,15 +173,15 @@ cut_event {budget} {start} {before} {now} {after} {s} {next} {index} {event} run
     let (less, (one, count)) = one_left index run.left budget run.count within in
     let stepped : Stepped = record { event = event; next = next } in
     let cases : (b : Bool) → halts event ≡ b → TookPrefix before (story_text budget (story budget start 0)) after =
-      elim [
-        true ↦ λ h. cut (line_of event) (end_line_of true (index + 1) (index + 1)) (halting run within e h).text took
-        | false ↦
-            λ h.
-            let rest : story run.left s index ≡ with_event event (story less next (index + 1)) =
-              ap (λ (n : ℕ). story n s index) one ∙ story_goes_on less index s stepped e h
-            in cut (line_of event) (text_from budget (index + 1) (story less next (index + 1)))
-                (from_here budget index (story run.left s index) (with_event event (story less next (index + 1))) (line_of event ++ text_from budget (index + 1) (story less next (index + 1))) rest
-                    (text_from-with_event budget index event (story less next (index + 1))) run.text)
-                took
-      ]
+    elim [
+      | true ↦ λ h. cut (line_of event) (end_line_of true (index + 1) (index + 1)) (halting run within e h).text took
+      | false ↦
+          λ h.
+          let rest : story run.left s index ≡ with_event event (story less next (index + 1)) =
+          ap (λ (n : ℕ). story n s index) one ∙ story_goes_on less index s stepped e h
+          in cut (line_of event) (text_from budget (index + 1) (story less next (index + 1)))
+          (from_here budget index (story run.left s index) (with_event event (story less next (index + 1))) (line_of event ++ text_from budget (index + 1) (story less next (index + 1))) rest
+          (text_from-with_event budget index event (story less next (index + 1))) run.text)
+          took
+    ]
     in cases (halts event) refl

@@ -32,7 +32,8 @@ fn halts(event: &Event) -> bool
 {
     match *event {
         Event::Retire {
-            mem: Some(access), ..
+            mem: Some(access),
+            ..
         } => access.store && access.size == 4 && access.addr == HALT && access.value % 2 == 1,
         _ => false,
     }

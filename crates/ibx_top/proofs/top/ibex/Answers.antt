@@ -14,5 +14,5 @@ returns-clause-unread g c =
     let begun = λ (name : List ℕ). IsBegunAs name (g.F.Files.begun c.perform-end.new.files) in
     let says = Says (g.E.Sink.taken c.args.err.now) (g.E.Sink.taken c.report.new.err) (g.E.Sink.faults c.args.err.now) (g.E.Sink.faults c.report.new.err) in
     let (said, (is, line)) =
-      unread_by end (λ (said : List ℕ). IfRun command (λ name options. (said ≡ name) × begun name)) (sym c.report.ensures.code ∙ e) c.perform-end.ensures.unread
+    unread_by end (λ (said : List ℕ). IfRun command (λ name options. (said ≡ name) × begun name)) (sym c.report.ensures.code ∙ e) c.perform-end.ensures.unread
     in unread_run command begun says said is (subst says line c.report.ensures.line)
