@@ -11,13 +11,15 @@ use Rattle.ibx_elf.specs.declared.fault.ElfFault.{ElfFault}
 use Rattle.ibx_elf.specs.Faults.{first_fault}
 use Rattle.ibx_elf.specs.Image.{image_of}
 use Rattle.ibx_words.specs.declared.command.Options.{Options}
+use Rattle.ibx_words.specs.Command.{Meaning, Running}
 use Rattle.ibx_arch.specs.Step.{reset_state}
+use Rattle.ibx_top.specs.declared.run.Ending.TheVariants.{Halted, Spent, NotBuilt}
 use Rattle.ibx_top.specs.declared.ends.End.{End}
 use Rattle.ibx_top.specs.declared.ends.End.TheVariants.{Ran, BadWords, CannotRead, CannotWrite, TooLong, Refused, OutOfMemory}
 use Rattle.ibx_top.specs.Stories.{Story, story, story_of}
 use Rattle.ibx_top.specs.Texts.{story_text}
-use Rattle.ibx_top.specs.ErrLines.{too_long_line, fault_line}
-use Rattle.ibx_top.specs.Answers.{Answer, refusal, ran, file_limit, answer_by, answer_of, IsThere, IsCutShort}
+use Rattle.ibx_top.specs.ErrLines.{cannot_read_line, too_long_line, fault_line}
+use Rattle.ibx_top.specs.Answers.{Answer, refusal, ran, file_limit, answer_by, answer_of, IfRun, IsThere, IsCutShort}
 use Rattle.ibx_top.specs.Ends.{code_of, err_line_of, IfBadWords, IfUnread, IfAnswered, IfUnwritten, UnlessRan, Settles}
 use Rattle.ibx_top.proofs.Gains.{none_more}
 
@@ -107,3 +109,21 @@ miss_at (Some bytes) before after there h = h
 pub no_miss : (told : Option Contents) (name : List ℕ) (before after : ℕ) → CountsMiss told name before after → IsThere told name → after ≡ before
 no_miss None name before after h there = h
 no_miss (Some contents) name before after h there = miss_at (contents name) before after there h
+
+-- status 3 is that of a file that can't be read, and its line has the file's name
+pub unread_by : (end : End) (P : List ℕ → Type 0) → code_of end ≡ 3 → IfUnread end P → (name : List ℕ) × (P name × (err_line_of end ≡ cannot_read_line name))
+unread_by (Ran Halted) P e h = absurd (omega arith)
+unread_by (Ran Spent) P e h = absurd (omega arith)
+unread_by (Ran NotBuilt) P e h = absurd (omega arith)
+unread_by BadWords P e h = absurd (omega arith)
+unread_by (CannotRead name) P e h = (name.now, (h, refl))
+unread_by CannotWrite P e h = absurd (omega arith)
+unread_by (TooLong name) P e h = absurd (omega arith)
+unread_by (Refused name fault) P e h = absurd (omega arith)
+unread_by OutOfMemory P e h = absurd (omega arith)
+
+-- the name on the error output is that of the words' file
+pub unread_run : (command : Option Meaning) (B S : List ℕ → Type 0) (said : List ℕ) → IfRun command (λ name options. (said ≡ name) × B name) → S (cannot_read_line said)
+    → IfRun command (λ name options. B name × S (cannot_read_line name))
+unread_run None B S said h line = tt
+unread_run (Some (Running name options)) B S said (same, begun) line = (begun, subst (λ (n : List ℕ). S (cannot_read_line n)) same line)

@@ -2,4 +2,3 @@ pub mod DecimalLemmas
 pub mod Gains
 pub mod Running
 pub mod EndLemmas
-pub mod ByCode

@@ -4,6 +4,8 @@
 mod ends;
 mod faults;
 mod run;
+#[cfg(test)]
+mod tests;
 mod top;
 
 pub use top::ibex;

@@ -3,7 +3,7 @@ use Rattle.ibx_base.specs.Files.{IsBegunAs}
 use Rattle.ibx_words.specs.Command.{command_of}
 use Rattle.ibx_top.specs.Answers.{IfRun, Says}
 use Rattle.ibx_top.specs.ErrLines.{cannot_read_line}
-use Rattle.ibx_top.proofs.ByCode.{unread_by, unread_run}
+use Rattle.ibx_top.proofs.EndLemmas.{unread_by, unread_run}
 use Rattle.ibx_top.proofs.top.ibex.Goals as goal
 
 pub returns-clause-unread : goal.returns-clause-unread
