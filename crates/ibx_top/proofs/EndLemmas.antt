@@ -1,5 +1,5 @@
 -- Ends and answers.
-use Rattle.std.proofs.Common.{◌≡◌, ℕ, ◌+◌, ◌<◌, ◌≤◌, Bool, true, false, List, [], ◌++◌, Option, Some, None, length, replicate, refl, sym, ap, ◌∙◌, subst, arith}
+use Rattle.std.proofs.Common.{◌≡◌, ℕ, ◌+◌, ◌<◌, ◌≤◌, Bool, true, false, List, [], ◌∷◌, ◌++◌, Option, Some, None, length, replicate, refl, sym, ap, ◌∙◌, subst, arith}
 use Rattle.std.specs.Prelude.{IsSome, IsSomeAnd, MatchOption, nat_lt}
 use Rattle.std.proofs.lemmas.List.{length-replicate}
 use Rattle.std.proofs.lemmas.Bool.{lt-ltb}
@@ -19,7 +19,7 @@ use Rattle.ibx_top.specs.declared.ends.End.TheVariants.{Ran, BadWords, CannotRea
 use Rattle.ibx_top.specs.Stories.{Story, story, story_of}
 use Rattle.ibx_top.specs.Texts.{story_text}
 use Rattle.ibx_top.specs.ErrLines.{cannot_read_line, too_long_line, fault_line}
-use Rattle.ibx_top.specs.Answers.{Answer, refusal, ran, file_limit, answer_by, answer_of, IfRun, IsThere, IsCutShort}
+use Rattle.ibx_top.specs.Answers.{Answer, refusal, ran, file_limit, answer_by, answer_of, Answers, IfRun, IsOneOf, IsThere, IsCutShort}
 use Rattle.ibx_top.specs.Ends.{code_of, err_line_of, IfBadWords, IfUnread, IfAnswered, IfUnwritten, UnlessRan, Settles}
 use Rattle.ibx_top.proofs.Gains.{none_more}
 
@@ -127,3 +127,23 @@ pub unread_run : (command : Option Meaning) (B S : List ℕ → Type 0) (said : 
     → IfRun command (λ name options. B name × S (cannot_read_line name))
 unread_run None B S said h line = tt
 unread_run (Some (Running name options)) B S said (same, begun) line = (begun, subst (λ (n : List ℕ). S (cannot_read_line n)) same line)
+
+-- statuses 0, 1, 5 and 10 are those of a file that was answered
+pub answered_by : (end : End) (P : Type 0) → IsOneOf (0 ∷ 1 ∷ 5 ∷ 10 ∷ []) (code_of end) → IfAnswered end P → P
+answered_by (Ran Halted) P e h = h
+answered_by (Ran Spent) P e h = h
+answered_by (Ran NotBuilt) P e h = h
+answered_by BadWords P e h = absurd cc
+answered_by (CannotRead name) P e h = absurd cc
+answered_by CannotWrite P e h = absurd cc
+answered_by (TooLong name) P e h = h
+answered_by (Refused name fault) P e h = h
+answered_by OutOfMemory P e h = absurd cc
+
+-- an end that is an answer, reported
+pub answers_run : (command : Option Meaning) (told : Option Contents) (end : End) (code : ℕ) (before after : Option (List ℕ)) (S : List ℕ → Type 0) → code ≡ code_of end → S (err_line_of end)
+    → IfRun command (λ name options. (bytes : List ℕ) × (IsContent told name bytes × Settles (answer_of name options bytes) end before after))
+    → IfRun command (λ name options. (bytes : List ℕ) × (IsContent told name bytes × (Answers (answer_of name options bytes) code before after × S (answer_of name options bytes).line)))
+answers_run None told end code before after S e line h = tt
+answers_run (Some (Running name options)) told end code before after S e line (bytes, (content, settles)) =
+    (bytes, (content, (record { status = e ∙ settles.code; text = settles.text }, subst S settles.line line)))

@@ -116,10 +116,50 @@ const HANDLER: [u32; 33] = [
     0x0000_0073,
 ];
 
+/// A handler at 0x0010_0000 that steps over an ECALL and returns, and the ECALL with the three behind it at the entry.
+const RETURNING: [u32; 36] = [
+    0x3410_2573,
+    0x0045_0513,
+    0x3415_1073,
+    0x3020_0073,
+    0,
+    0,
+    0,
+    0,
+    0,
+    0,
+    0,
+    0,
+    0,
+    0,
+    0,
+    0,
+    0,
+    0,
+    0,
+    0,
+    0,
+    0,
+    0,
+    0,
+    0,
+    0,
+    0,
+    0,
+    0,
+    0,
+    0,
+    0,
+    0x0000_0073,
+    0x0002_0337,
+    0x0010_0393,
+    0x0073_2423,
+];
+
 #[test]
 fn runs_print_their_events(rt: HostRuntime) -> Result<(), Fail> {
     // The words, where the code lies, the code, the status, and what is written.
-    let rows: [(&str, u32, &[u32], u8, &str, &str); 14] = [
+    let rows: [(&str, u32, &[u32], u8, &str, &str); 16] = [
         ("run a", ENTRY, &HALT, 0, HALT_TEXT, ""),
         (
             "run a --cycles 1",
@@ -235,6 +275,36 @@ fn runs_print_their_events(rt: HostRuntime) -> Result<(), Fail> {
             &HANDLER,
             0,
             "T 0 00100080 cause=11 tval=00000000\nR 1 00100000 00020337 x06=00020000\nR 2 00100004 00100393 x07=00000001\nR 3 00100008 00732423 m00020008=00000001/4\nE halt 4 4\n",
+            "",
+        ),
+        // A handler that returns behind the ECALL at the entry.
+        (
+            "run a",
+            0x0010_0000,
+            &RETURNING,
+            0,
+            "T 0 00100080 cause=11 tval=00000000\nR 1 00100000 34102573 x10=00100080\nR 2 00100004 00450513 x10=00100084\nR 3 00100008 34151073\nR 4 0010000c 30200073\nR 5 00100084 00020337 x06=00020000\nR 6 00100088 00100393 x07=00000001\nR 7 0010008c 00732423 m00020008=00000001/4\nE halt 8 8\n",
+            "",
+        ),
+        // A return to U mode, which one entry lets read, write and execute everywhere.
+        (
+            "run a",
+            ENTRY,
+            &[
+                0xfff0_0293,
+                0x3b02_9073,
+                0x01f0_0293,
+                0x3a02_9073,
+                0x0010_02b7,
+                0x0a02_8293,
+                0x3412_9073,
+                0x3020_0073,
+                0x0002_0337,
+                0x0010_0393,
+                0x0073_2423,
+            ],
+            0,
+            "R 0 00100080 fff00293 x05=ffffffff\nR 1 00100084 3b029073\nR 2 00100088 01f00293 x05=0000001f\nR 3 0010008c 3a029073\nR 4 00100090 001002b7 x05=00100000\nR 5 00100094 0a028293 x05=001000a0\nR 6 00100098 34129073\nR 7 0010009c 30200073\nR 8 001000a0 00020337 x06=00020000\nR 9 001000a4 00100393 x07=00000001\nR 10 001000a8 00732423 m00020008=00000001/4\nE halt 11 11\n",
             "",
         ),
         // The halfword 0 is illegal.
