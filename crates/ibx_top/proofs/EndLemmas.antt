@@ -1,8 +1,7 @@
 -- Ends and answers.
-use Rattle.std.proofs.Common.{◌≡◌, ℕ, ◌+◌, ◌<◌, ◌≤◌, Bool, true, false, List, [], ◌∷◌, ◌++◌, Option, Some, None, length, replicate, refl, sym, ap, ◌∙◌, subst, arith}
+use Rattle.std.proofs.Common.{◌≡◌, ℕ, ◌+◌, ◌<◌, ◌≤◌, Bool, true, false, List, [], ◌∷◌, Option, Some, None, length, replicate, refl, sym, ap, ◌∙◌, subst, arith}
 use Rattle.std.specs.Prelude.{IsSome, IsSomeAnd, MatchOption, nat_lt}
 use Rattle.std.proofs.lemmas.List.{length-replicate}
-use Rattle.std.proofs.lemmas.Bool.{lt-ltb}
 use Rattle.std.proofs.lemmas.Bool.Decides.{nat_tests}
 use Rattle.ibx_base.specs.Counts.{Rose}
 use Rattle.ibx_base.specs.Files.{Contents, IsContent, IsLonger, CountsMiss}
@@ -16,11 +15,11 @@ use Rattle.ibx_arch.specs.Step.{reset_state}
 use Rattle.ibx_top.specs.declared.run.Ending.TheVariants.{Halted, Spent, NotBuilt}
 use Rattle.ibx_top.specs.declared.ends.End.{End}
 use Rattle.ibx_top.specs.declared.ends.End.TheVariants.{Ran, BadWords, CannotRead, CannotWrite, TooLong, Refused, OutOfMemory}
-use Rattle.ibx_top.specs.Stories.{Story, story, story_of}
+use Rattle.ibx_top.specs.Stories.{story, story_of}
 use Rattle.ibx_top.specs.Texts.{story_text}
 use Rattle.ibx_top.specs.ErrLines.{cannot_read_line, too_long_line, fault_line}
 use Rattle.ibx_top.specs.Answers.{Answer, refusal, ran, file_limit, answer_by, answer_of, Answers, IfRun, IsOneOf, IsThere, IsCutShort}
-use Rattle.ibx_top.specs.Ends.{code_of, err_line_of, IfBadWords, IfUnread, IfAnswered, IfUnwritten, UnlessRan, Settles}
+use Rattle.ibx_top.specs.Ends.{code_of, err_line_of, IfUnread, IfAnswered, IfUnwritten, Settles}
 use Rattle.ibx_top.proofs.Gains.{none_more}
 
 -- a fact about an end of one kind, where there is no such end

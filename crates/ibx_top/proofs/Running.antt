@@ -1,8 +1,7 @@
 -- A run that has come to an event, and its story from there on.
-use Rattle.std.proofs.Common.{◌≡◌, ℕ, zero, suc, ◌+◌, ◌<◌, ◌≤◌, Bool, true, false, List, [], ◌∷◌, ◌++◌, Option, Some, None, length, refl, sym, ap, ◌∙◌, subst, arith, append_assoc, zero-add, add-one}
+use Rattle.std.proofs.Common.{◌≡◌, ℕ, zero, suc, ◌+◌, ◌<◌, ◌≤◌, Bool, true, false, List, [], ◌++◌, Option, Some, None, length, refl, sym, ap, ◌∙◌, subst, arith, append_assoc, zero-add, add-one}
 use Rattle.std.specs.Prelude.{flat_map}
 use Rattle.std.proofs.lemmas.Option.{same_Some}
-use Rattle.std.proofs.lemmas.List.{append-nil}
 use Rattle.ibx_base.specs.Sinks.{with_more, TookPrefix}
 use Rattle.ibx_isa.specs.declared.event.Event.{Event}
 use Rattle.ibx_trace.specs.Lines.{line_of, end_line_of}
@@ -13,7 +12,7 @@ use Rattle.ibx_top.specs.declared.run.Ending.{Ending}
 use Rattle.ibx_top.specs.declared.run.Ending.TheVariants.{Halted, Spent, NotBuilt}
 use Rattle.ibx_top.specs.Stories.{Story, halts, no_events, with_event, story, story_by, story_after}
 use Rattle.ibx_top.specs.Texts.{last_line, story_text}
-use Rattle.ibx_top.proofs.Gains.{SoFar, begun, more, last, done, cut, cut_last}
+use Rattle.ibx_top.proofs.Gains.{SoFar, begun, more, cut}
 
 -- a step that gave no event is none
 pub step_none : (s next : State) (step : Option Stepped) → Steps s step None next → step ≡ None

@@ -1,5 +1,5 @@
 -- What the program answers to the bytes of its file, and the words of its contract (the statuses are our own rule).
-use Rattle.std.specs.Prelude.{⊤, ◌≡◌, ℕ, ◌≤◌, Bool, true, false, ◌==◌, nat_lt, List, [], ◌∷◌, length, Option, Some, None, IsSome, IsTrue, ◌⊎◌}
+use Rattle.std.specs.Prelude.{⊤, ◌≡◌, ℕ, ◌≤◌, Bool, true, false, ◌==◌, nat_lt, List, [], length, Option, Some, None, IsSome, IsTrue, ◌⊎◌}
 use Rattle.std.specs.List.{list_any}
 use Rattle.ibx_base.specs.Counts.{Rose}
 use Rattle.ibx_base.specs.Files.{Contents}

@@ -1,5 +1,5 @@
 -- How a call ends, before it is reported: the statuses and the lines of each end.
-use Rattle.std.specs.Prelude.{⊤, ◌≡◌, ℕ, List, [], Option}
+use Rattle.std.specs.Prelude.{⊤, ◌≡◌, ℕ, List, Option}
 use Rattle.ibx_top.specs.declared.ends.End.{End}
 use Rattle.ibx_top.specs.declared.ends.End.TheVariants.{Ran, BadWords, CannotRead, CannotWrite, TooLong, Refused, OutOfMemory}
 use Rattle.ibx_top.specs.ErrLines.{bad_words_line, cannot_read_line, cannot_write_line, too_long_line, fault_line, out_of_memory_line}

@@ -1,6 +1,5 @@
 -- What a run prints (the format is our own).
 use Rattle.std.specs.Prelude.{ℕ, true, false, List, [], ◌++◌, length, flat_map}
-use Rattle.ibx_isa.specs.declared.event.Event.{Event}
 use Rattle.ibx_trace.specs.Lines.{line_of, end_line_of}
 use Rattle.ibx_top.specs.declared.run.Ending.{Ending}
 use Rattle.ibx_top.specs.declared.run.Ending.TheVariants.{Halted, Spent, NotBuilt}

@@ -32,8 +32,10 @@ pub(crate) enum End<'w> {
 /// Writes a line of three parts. After `Failed`, which comes only where the sink counted a fault, a prefix of it was
 /// taken.
 fn write_parts<E: Sink>(err: &mut E, front: &str, middle: &str, back: &str) -> Result<(), Failed>
-    ensures whole { OnOk result (E.taken err.new ≡ with_more (E.taken err.old) (front.now ++ middle.now ++ back.now)) }
-    ensures prefix { OnErr result (TookPrefix (E.taken err.old) (front.now ++ middle.now ++ back.now) (E.taken err.new)) }
+    ensures whole { OnOk result
+        (E.taken err.new ≡ with_more (E.taken err.old) (front.now ++ middle.now ++ back.now)) }
+    ensures prefix { OnErr result
+        (TookPrefix (E.taken err.old) (front.now ++ middle.now ++ back.now) (E.taken err.new)) }
     ensures cause { HasCause (E.faults err.old) (E.faults err.new) result }
 {
     write_all(err, front.as_bytes())?;
@@ -83,7 +85,8 @@ fn code_of(end: End<'_>) -> u8
 pub(crate) fn report<E: Sink>(err: &mut E, end: End<'_>) -> Status
     ensures code { result.code ≡ code_of_lem end.entry }
     ensures seal { result.seal ≡ 0 }
-    ensures line { Says (E.taken err.old) (E.taken err.new) (E.faults err.old) (E.faults err.new) (err_line_of end.entry) }
+    ensures line { Says (E.taken err.old) (E.taken err.new) (E.faults err.old) (E.faults err.new)
+        (err_line_of end.entry) }
     ensures quiet { IsOneOf (0 ∷ 1 ∷ []) (code_of_lem end.entry) → err.new ≡ err.old }
 {
     let _ = write_line(err, end);

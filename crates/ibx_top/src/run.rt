@@ -52,8 +52,10 @@ fn print_event<K: Sink>(event: &Event, out: &mut K) -> Result<(), Failed>
 
 /// Writes the last line: whether a halting store ended the run, and the counts of cycles and of events.
 fn print_end<K: Sink>(halted: bool, cycles: u64, events: u64, out: &mut K) -> Result<(), Failed>
-    ensures whole { OnOk result (K.taken out.new ≡ with_more (K.taken out.old) (end_line_of halted cycles events)) }
-    ensures prefix { OnErr result (TookPrefix (K.taken out.old) (end_line_of halted cycles events) (K.taken out.new)) }
+    ensures whole { OnOk result
+        (K.taken out.new ≡ with_more (K.taken out.old) (end_line_of halted cycles events)) }
+    ensures prefix { OnErr result
+        (TookPrefix (K.taken out.old) (end_line_of halted cycles events) (K.taken out.new)) }
     ensures cause { HasCause (K.faults out.old) (K.faults out.new) result }
 {
     let text = end_line(halted, cycles, events);
@@ -68,9 +70,11 @@ pub(crate) fn run<K: Sink>(
     out: &mut K,
 ) -> Result<Ending, Failed>
     requires { cycles ≤ 1000000000 }
-    ensures whole { OnOk result (K.taken out.new ≡ with_more (K.taken out.old) (story_text cycles (story cycles (state_of machine.old) 0))) }
+    ensures whole { OnOk result
+        (K.taken out.new ≡ with_more (K.taken out.old) (story_text cycles (story cycles (state_of machine.old) 0))) }
     ensures ending { IfOk result (λ ending. ending ≡ (story cycles (state_of machine.old) 0).ending) }
-    ensures prefix { OnErr result (TookPrefix (K.taken out.old) (story_text cycles (story cycles (state_of machine.old) 0)) (K.taken out.new)) }
+    ensures prefix { OnErr result
+        (TookPrefix (K.taken out.old) (story_text cycles (story cycles (state_of machine.old) 0)) (K.taken out.new)) }
     ensures cause { HasCause (K.faults out.old) (K.faults out.new) result }
 {
     for index in 0..cycles {

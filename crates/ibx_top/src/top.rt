@@ -3,7 +3,6 @@ ghost use Rattle.std.specs.Prelude.{◌≡◌, ◌≤◌, ◌↔◌, ◌⊎◌, 
 ghost use Rattle.ibx_base.specs.Counts.{Rose};
 ghost use Rattle.ibx_base.specs.Files.{IsContent, IsBegunAs, CountsMiss};
 ghost use Rattle.ibx_base.specs.Sinks.{TookPrefix};
-ghost use Rattle.ibx_elf.specs.Ram.{IsRam};
 ghost use Rattle.ibx_words.specs.Command.{command_of, IsInRange};
 ghost use Rattle.ibx_arch.specs.Step.{reset_state};
 ghost use Rattle.ibx_top.specs.Stories.{story};
@@ -26,9 +25,11 @@ const FILE_LIMIT: usize = 33_554_432;
 /// Runs an image for at most `cycles` events.
 fn run_image<'w, K: Sink>(alloc: Global, image: &Image<'_>, cycles: u64, out: &mut K) -> End<'w>
     requires { cycles ≤ 1000000000 }
-    ensures answered { IfAnswered result (Settles (ran cycles (story cycles (reset_state image.now) 0)) result (K.taken out.old) (K.taken out.new)) }
+    ensures answered { IfAnswered result
+        (Settles (ran cycles (story cycles (reset_state image.now) 0)) result (K.taken out.old) (K.taken out.new)) }
     ensures write_fault { IfUnwritten result (Rose (K.faults out.old) (K.faults out.new)) }
-    ensures cut_short { IfUnwritten result (TookPrefix (K.taken out.old) (story_text cycles (story cycles (reset_state image.now) 0)) (K.taken out.new)) }
+    ensures cut_short { IfUnwritten result
+        (TookPrefix (K.taken out.old) (story_text cycles (story cycles (reset_state image.now) 0)) (K.taken out.new)) }
     ensures silent { UnlessRan result (out.new ≡ out.old) }
     ensures no_bad_words { IfBadWords result ⊥ }
     ensures no_read { IfUnread result (λ _. ⊥) }
@@ -52,7 +53,8 @@ fn run_bytes<'w, K: Sink>(
 ) -> End<'w>
     requires range { IsInRange options }
     requires fits { length bytes.now ≤ file_limit }
-    ensures answered { IfAnswered result (Settles (answer_of name.now options bytes.now) result (K.taken out.old) (K.taken out.new)) }
+    ensures answered { IfAnswered result
+        (Settles (answer_of name.now options bytes.now) result (K.taken out.old) (K.taken out.new)) }
     ensures write_fault { IfUnwritten result (Rose (K.faults out.old) (K.faults out.new)) }
     ensures cut_short { IfUnwritten result (IsCutShort options bytes.now (K.taken out.old) (K.taken out.new)) }
     ensures silent { UnlessRan result (out.new ≡ out.old) }
@@ -78,9 +80,11 @@ fn run_file<'w, F: Files, K: Sink>(
     ensures misses { CountsMiss (F.contents files.old) name.now (F.misses files.old) (F.misses files.new) }
     ensures read_fault { IfUnread result (λ _. Rose (F.faults files.old) (F.faults files.new)) }
     ensures unread { IfUnread result (λ said. (said ≡ name.now) × IsBegunAs name.now (F.begun files.new)) }
-    ensures answered { IfAnswered result ((bytes : List ℕ) × (IsContent (F.contents files.old) name.now bytes × Settles (answer_of name.now options bytes) result (K.taken out.old) (K.taken out.new))) }
+    ensures answered { IfAnswered result ((bytes : List ℕ) × (IsContent (F.contents files.old) name.now bytes
+        × Settles (answer_of name.now options bytes) result (K.taken out.old) (K.taken out.new))) }
     ensures write_fault { IfUnwritten result (Rose (K.faults out.old) (K.faults out.new)) }
-    ensures cut_short { IfUnwritten result ((bytes : List ℕ) × (IsContent (F.contents files.old) name.now bytes × IsCutShort options bytes (K.taken out.old) (K.taken out.new))) }
+    ensures cut_short { IfUnwritten result ((bytes : List ℕ) × (IsContent (F.contents files.old) name.now bytes
+        × IsCutShort options bytes (K.taken out.old) (K.taken out.new))) }
     ensures silent { UnlessRan result (out.new ≡ out.old) }
     ensures no_bad_words { IfBadWords result ⊥ }
 {
@@ -102,14 +106,18 @@ fn perform<'w, F: Files, K: Sink>(
     ensures bad_words { IfBadWords result ((command_of (map string_bytes words.now) ≡ None) × (files.new ≡ files.old)) }
     ensures no_words { command_of (map string_bytes words.now) ≡ None → IfBadWords result ⊥ → ⊥ }
     ensures kept { F.contents files.new ≡ F.contents files.old }
-    ensures misses { IfRun (command_of (map string_bytes words.now)) (λ name options. IsThere (F.contents files.old) name) → F.misses files.new ≡ F.misses files.old }
+    ensures misses { IfRun (command_of (map string_bytes words.now)) (λ name options. IsThere (F.contents files.old) name)
+        → F.misses files.new ≡ F.misses files.old }
     ensures read_fault { IfUnread result (λ _. Rose (F.faults files.old) (F.faults files.new)) }
-    ensures unread { IfUnread result (λ said. IfRun (command_of (map string_bytes words.now)) (λ name options. (said ≡ name) × IsBegunAs name (F.begun files.new))) }
+    ensures unread { IfUnread result (λ said. IfRun (command_of (map string_bytes words.now)) (λ name options.
+        (said ≡ name) × IsBegunAs name (F.begun files.new))) }
     ensures answered { IfAnswered result (IfRun (command_of (map string_bytes words.now)) (λ name options.
-        (bytes : List ℕ) × (IsContent (F.contents files.old) name bytes × Settles (answer_of name options bytes) result (K.taken out.old) (K.taken out.new)))) }
+        (bytes : List ℕ) × (IsContent (F.contents files.old) name bytes
+        × Settles (answer_of name options bytes) result (K.taken out.old) (K.taken out.new)))) }
     ensures write_fault { IfUnwritten result (Rose (K.faults out.old) (K.faults out.new)) }
     ensures cut_short { IfUnwritten result (IfRun (command_of (map string_bytes words.now)) (λ name options.
-        (bytes : List ℕ) × (IsContent (F.contents files.old) name bytes × IsCutShort options bytes (K.taken out.old) (K.taken out.new)))) }
+        (bytes : List ℕ) × (IsContent (F.contents files.old) name bytes
+        × IsCutShort options bytes (K.taken out.old) (K.taken out.new)))) }
     ensures silent { UnlessRan result (out.new ≡ out.old) }
 {
     match read_words(words) {
@@ -146,40 +154,54 @@ pub fn ibex<F: Files, K: Sink, E: Sink>(
 
     // Statuses 0, 1, 5 and 10 are those of the file's bytes, with their whole text and line. Where the bytes aren't
     // told, they are those of some bytes.
-    ensures answered { IsOneOf (0 ∷ 1 ∷ 5 ∷ 10 ∷ []) result.code → IfRun (command_of (map string_bytes words.now)) (λ name options.
-        (bytes : List ℕ) × (IsContent (F.contents files.old) name bytes × (Answers (answer_of name options bytes) result.code (K.taken out.old) (K.taken out.new)
-        × Says (E.taken err.old) (E.taken err.new) (E.faults err.old) (E.faults err.new) (answer_of name options bytes).line))) }
+    ensures answered { IsOneOf (0 ∷ 1 ∷ 5 ∷ 10 ∷ []) result.code
+        → IfRun (command_of (map string_bytes words.now)) (λ name options.
+        (bytes : List ℕ) × (IsContent (F.contents files.old) name bytes
+        × (Answers (answer_of name options bytes) result.code (K.taken out.old) (K.taken out.new)
+        × Says (E.taken err.old) (E.taken err.new) (E.faults err.old) (E.faults err.new)
+        (answer_of name options bytes).line))) }
 
     // Where the words fit, the bytes are told, and neither files nor `out` count a fault, nothing but want of memory
     // comes in place of the answer.
-    ensures complete { (Rose (F.faults files.old) (F.faults files.new) → ⊥) → (Rose (K.faults out.old) (K.faults out.new) → ⊥)
-        → IfRun (command_of (map string_bytes words.now)) (λ name options. (bytes : List ℕ) → IsTold (F.contents files.old) name bytes
-        → (result.code ≡ 7) ⊎ Answers (answer_of name options bytes) result.code (K.taken out.old) (K.taken out.new)) }
+    ensures complete { (Rose (F.faults files.old) (F.faults files.new) → ⊥)
+        → (Rose (K.faults out.old) (K.faults out.new) → ⊥)
+        → IfRun (command_of (map string_bytes words.now)) (λ name options.
+        (bytes : List ℕ) → IsTold (F.contents files.old) name bytes
+        → (result.code ≡ 7)
+        ⊎ Answers (answer_of name options bytes) result.code (K.taken out.old) (K.taken out.new)) }
 
     // Status 2 comes exactly where the words don't fit, and then the files aren't touched.
     ensures bad_words { (result.code ≡ 2) ↔ (command_of (map string_bytes words.now) ≡ None) }
     ensures untouched { result.code ≡ 2 → files.new ≡ files.old }
-    ensures bad_words_line { result.code ≡ 2 → Says (E.taken err.old) (E.taken err.new) (E.faults err.old) (E.faults err.new) bad_words_line }
+    ensures bad_words_line { result.code ≡ 2
+        → Says (E.taken err.old) (E.taken err.new) (E.faults err.old) (E.faults err.new) bad_words_line }
 
     // Status 3 comes only where the files counted a fault. The name on `err` is that of the words, and that of the
     // begun file where one is begun.
     ensures read_fault { result.code ≡ 3 → Rose (F.faults files.old) (F.faults files.new) }
-    ensures unread { result.code ≡ 3 → IfRun (command_of (map string_bytes words.now)) (λ name options. IsBegunAs name (F.begun files.new)
+    ensures unread { result.code ≡ 3 → IfRun (command_of (map string_bytes words.now)) (λ name options.
+        IsBegunAs name (F.begun files.new)
         × Says (E.taken err.old) (E.taken err.new) (E.faults err.old) (E.faults err.new) (cannot_read_line name)) }
 
     // Status 4 comes only where `out` counted a fault, and it took a prefix of the text of a run.
     ensures write_fault { result.code ≡ 4 → Rose (K.faults out.old) (K.faults out.new) }
     ensures cut_short { result.code ≡ 4 → IfRun (command_of (map string_bytes words.now)) (λ name options.
-        (bytes : List ℕ) × (IsContent (F.contents files.old) name bytes × IsCutShort options bytes (K.taken out.old) (K.taken out.new))) }
-    ensures cannot_write_line { result.code ≡ 4 → Says (E.taken err.old) (E.taken err.new) (E.faults err.old) (E.faults err.new) cannot_write_line }
+        (bytes : List ℕ) × (IsContent (F.contents files.old) name bytes
+        × IsCutShort options bytes (K.taken out.old) (K.taken out.new))) }
+    ensures cannot_write_line { result.code ≡ 4
+        → Says (E.taken err.old) (E.taken err.new) (E.faults err.old) (E.faults err.new) cannot_write_line }
 
-    ensures out_of_memory_line { result.code ≡ 7 → Says (E.taken err.old) (E.taken err.new) (E.faults err.old) (E.faults err.new) out_of_memory_line }
+    ensures out_of_memory_line { result.code ≡ 7
+        → Says (E.taken err.old) (E.taken err.new) (E.faults err.old) (E.faults err.new) out_of_memory_line }
 
     // What is left alone.
     ensures silent { IsOneOf (2 ∷ 3 ∷ 5 ∷ 7 ∷ []) result.code → out.new ≡ out.old }
     ensures quiet { IsOneOf (0 ∷ 1 ∷ []) result.code → err.new ≡ err.old }
     ensures kept { F.contents files.new ≡ F.contents files.old }
-    ensures misses { IfRun (command_of (map string_bytes words.now)) (λ name options. IsThere (F.contents files.old) name) → F.misses files.new ≡ F.misses files.old }
+
+    // The names that are told to be there aren't missed.
+    ensures misses { IfRun (command_of (map string_bytes words.now)) (λ name options. IsThere (F.contents files.old) name)
+        → F.misses files.new ≡ F.misses files.old }
 {
     let end = perform(alloc, words, files, out);
     report(err, end)

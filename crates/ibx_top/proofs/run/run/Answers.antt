@@ -1,5 +1,5 @@
-use Rattle.std.proofs.Common.{◌≡◌, ℕ, ◌+◌, true, Some, None, arith, sym, ◌∙◌}
-use Rattle.ibx_arch.specs.Step.{Stepped, present_step}
+use Rattle.std.proofs.Common.{ℕ, ◌+◌, true, arith, sym, ◌∙◌}
+use Rattle.ibx_arch.specs.Step.{present_step}
 use Rattle.ibx_step.specs.Machines.{state_of}
 use Rattle.ibx_trace.specs.Lines.{line_of, end_line_of}
 use Rattle.ibx_top.proofs.Gains.{on_err, last, done, cut_last, more}

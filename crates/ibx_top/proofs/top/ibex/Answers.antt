@@ -3,7 +3,6 @@ use Rattle.ibx_base.specs.Files.{IsBegunAs, IsContent}
 use Rattle.ibx_words.specs.Command.{command_of}
 use Rattle.ibx_top.specs.Answers.{answer_of, IfRun, IsOneOf, Says}
 use Rattle.ibx_top.specs.Ends.{Settles}
-use Rattle.ibx_top.specs.ErrLines.{cannot_read_line}
 use Rattle.ibx_top.proofs.EndLemmas.{answered_by, answers_run, unread_by, unread_run}
 use Rattle.ibx_top.proofs.top.ibex.Goals as goal
 

@@ -1,4 +1,4 @@
-use Rattle.std.proofs.Common.{◌≡◌, List, ℕ, refl, sym, ap, ◌∙◌, subst}
+use Rattle.std.proofs.Common.{refl, sym, ap, ◌∙◌, subst}
 use Rattle.ibx_base.specs.Sinks.{TookPrefix}
 use Rattle.ibx_elf.specs.Image.{Placed}
 use Rattle.ibx_arch.specs.Step.{reset_state}
