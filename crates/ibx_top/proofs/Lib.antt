@@ -1,4 +1,3 @@
-pub mod DecimalLemmas
 pub mod Gains
 pub mod Running
 pub mod EndLemmas

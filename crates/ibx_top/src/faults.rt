@@ -1,49 +1,23 @@
 //! What is printed of a file that is refused.
-ghost use Rattle.std.specs.Prelude.{◌≡◌, ◌+◌, ◌<◌, ◌≤◌, [], ◌∷◌, ◌++◌, length, flat_map};
-ghost use Rattle.std.specs.Fmt.{decimal};
+ghost use Rattle.std.specs.Prelude.{◌≡◌, ◌+◌, ◌≤◌, ◌++◌, flat_map};
 ghost use Rattle.arrayvec.specs.ArrayString.{array_string_len};
 ghost use Rattle.ibx_top.specs.ErrLines.{spaced, fault_number as fault_number_lem, fault_indices, fault_text as fault_text_lem};
 
 use arrayvec::ArrayString;
 use ibx_elf::ElfFault;
+use itoa::Buffer;
 
 /// The end of a line, which has at most 30 bytes.
 pub(crate) type Text = ArrayString<32>;
 
-/// Appends a decimal digit.
-fn push_digit(text: &mut Text, digit: u8)
-    requires digit { digit < 10 }
-    requires room { array_string_len text.old < 32 }
-    ensures bytes { text.new.bytes ≡ text.old.bytes ++ (48 + digit) ∷ [] }
-    ensures len { array_string_len text.new ≡ array_string_len text.old + 1 }
-{
-    text.push(char::from(b'0' + digit));
-}
-
-/// Appends a decimal number without leading zeros.
-#[tactic(auto, using(crate::proofs::DecimalLemmas::decimal_one, crate::proofs::DecimalLemmas::decimal_more, crate::proofs::DecimalLemmas::length_decimal_one, crate::proofs::DecimalLemmas::length_decimal_step))]
-fn push_decimal(text: &mut Text, number: u16)
-    requires { array_string_len text.old + length (decimal number) ≤ 32 }
-    ensures bytes { text.new.bytes ≡ text.old.bytes ++ decimal number }
-    ensures len { array_string_len text.new ≡ array_string_len text.old + length (decimal number) }
-{
-    if number < 10 {
-        push_digit(text, number as u8);
-    } else {
-        push_decimal(text, number / 10);
-        push_digit(text, (number % 10) as u8);
-    }
-}
-
 /// Appends a space and a number.
-#[tactic(auto, using(crate::proofs::DecimalLemmas::length_decimal_le_5))]
 fn push_spaced(text: &mut Text, number: u16)
     requires { array_string_len text.old + 6 ≤ 32 }
     ensures bytes { text.new.bytes ≡ text.old.bytes ++ spaced number }
     ensures len { array_string_len text.new ≤ array_string_len text.old + 6 }
 {
     text.push_str(" ");
-    push_decimal(text, number);
+    text.push_str(Buffer::new().format(number));
 }
 
 /// The number of a fault: 1 to 13, in the order in which they are looked for.

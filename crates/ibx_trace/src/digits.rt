@@ -1,10 +1,11 @@
 //! Numbers appended to a line, one digit at a time.
-ghost use Rattle.std.specs.Prelude.{◌≡◌, ◌+◌, ◌<◌, ◌≤◌, [], ◌∷◌, ◌++◌, false, length};
+ghost use Rattle.std.specs.Prelude.{◌≡◌, ◌+◌, ◌<◌, ◌≤◌, [], ◌∷◌, ◌++◌, false};
 ghost use Rattle.std.specs.Fmt.{decimal, digit_glyph};
 ghost use Rattle.arrayvec.specs.ArrayString.{array_string_len};
 ghost use Rattle.ibx_trace.specs.Digits.{hex_digits, two_digits, word_digits};
 
 use arrayvec::ArrayString;
+use itoa::Buffer;
 
 /// The text of a line. The longest has fewer than 96 bytes.
 pub(crate) type Line = ArrayString<96>;
@@ -62,27 +63,11 @@ pub(crate) fn push_two_digits(text: &mut Line, number: u8)
     push_digit(text, number % 10);
 }
 
-/// Appends a decimal number without leading zeros.
-#[tactic(auto, using(crate::proofs::DigitLemmas::decimal_one, crate::proofs::DigitLemmas::decimal_more, crate::proofs::DigitLemmas::length_decimal_one, crate::proofs::DigitLemmas::length_decimal_step))]
-fn push_decimal(text: &mut Line, number: u64)
-    requires { array_string_len text.old + length (decimal number) ≤ 96 }
-    ensures bytes { text.new.bytes ≡ text.old.bytes ++ decimal number }
-    ensures len { array_string_len text.new ≡ array_string_len text.old + length (decimal number) }
-{
-    if number < 10 {
-        push_digit(text, number as u8);
-    } else {
-        push_decimal(text, number / 10);
-        push_digit(text, (number % 10) as u8);
-    }
-}
-
 /// Appends a decimal number, which has at most 20 digits, without leading zeros.
-#[tactic(auto, using(crate::proofs::DigitLemmas::length_decimal_le_20))]
 pub(crate) fn push_number(text: &mut Line, number: u64)
     requires { array_string_len text.old + 20 ≤ 96 }
     ensures bytes { text.new.bytes ≡ text.old.bytes ++ decimal number }
     ensures len { array_string_len text.new ≤ array_string_len text.old + 20 }
 {
-    push_decimal(text, number);
+    text.push_str(Buffer::new().format(number));
 }
