@@ -392,6 +392,23 @@ fn files_are_refused_or_run(rt: HostRuntime) -> Result<(), Fail> {
 }
 
 #[test]
+fn firmware_of_64_kib_runs(rt: HostRuntime) -> Result<(), Fail> {
+    // A vector table of 128 bytes, the code at the entry, and a zero-filled segment behind the file's 65,536 bytes.
+    let headers = [[1, 116, 0x0010_0000, 0x1_0000, 0x1_0000], [1, 0, 0x0011_0000, 0, 0x1_0000]];
+    let mut file = elf(rt.alloc(), ENTRY, 2, &headers, &[0; 32])?;
+    for word in HALT {
+        file.extend_from_slice(&word.to_le_bytes())?;
+    }
+    file.extend_from_slice(&[0; 65_396])?;
+    let mut files = MemFiles::new(rt.alloc());
+    files.add("a", &file)?;
+    let shown = call(rt.alloc(), "run a", &mut files, 0, 0)?;
+    assert_eq!(rt; shown.out.bytes(), HALT_TEXT.as_bytes());
+    assert_eq!(rt; shown.code, 0);
+    Ok(())
+}
+
+#[test]
 fn the_outside_fails(rt: HostRuntime) -> Result<(), Fail> {
     let two_lines = "R 0 00100080 00020337 x06=00020000\nR 1 00100084 00100393 x07=00000001\n";
     // The words, the call of the files, the writes of each sink that fail (0 for none), the status, and what is written.
