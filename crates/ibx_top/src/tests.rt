@@ -394,7 +394,10 @@ fn files_are_refused_or_run(rt: HostRuntime) -> Result<(), Fail> {
 #[test]
 fn firmware_of_64_kib_runs(rt: HostRuntime) -> Result<(), Fail> {
     // A vector table of 128 bytes, the code at the entry, and a zero-filled segment behind the file's 65,536 bytes.
-    let headers = [[1, 116, 0x0010_0000, 0x1_0000, 0x1_0000], [1, 0, 0x0011_0000, 0, 0x1_0000]];
+    let headers = [
+        [1, 116, 0x0010_0000, 0x1_0000, 0x1_0000],
+        [1, 0, 0x0011_0000, 0, 0x1_0000],
+    ];
     let mut file = elf(rt.alloc(), ENTRY, 2, &headers, &[0; 32])?;
     for word in HALT {
         file.extend_from_slice(&word.to_le_bytes())?;
