@@ -1,11 +1,10 @@
 -- The worked times, computed by the checker: the list (2, 1), (0, 0), and loads that are issued at cycles 0, 4 and 5.
-use Rattle.std.proofs.Common.{◌≡◌, ℕ, Bool, true, false, List, [], ◌∷◌, refl}
+use Rattle.std.proofs.Common.{◌≡◌, false, List, [], ◌∷◌, refl}
 use Rattle.ibx_isa.specs.declared.bus.Req.{Req}
 use Rattle.ibx_plan.specs.declared.site.Wait.{Wait}
-use Rattle.ibx_bus.specs.Memory.{MemoryState}
 use Rattle.ibx_bus.specs.Port.{port_moves}
 use Rattle.ibx_bus.specs.PortTimes.{Call, IsPolite, answered_in, granted_in, issues, trace, trace_of, grant_times, answer_times, grant_time, answer_time, waits_of}
-use Rattle.ibx_bus.specs.Wires.{fetch_wires, no_wires}
+use Rattle.ibx_isa.specs.Wires.{fetch_wires, no_request}
 
 abbrev waits : List Wait
 waits = record { grant = 2; answer = 1 } ∷ record { grant = 0; answer = 0 } ∷ []
@@ -17,7 +16,7 @@ abbrev asks : Call
 asks = call (fetch_wires 0)
 
 abbrev rests : Call
-rests = call no_wires
+rests = call no_request
 
 abbrev calls : List Call
 calls = asks ∷ asks ∷ asks ∷ rests ∷ asks ∷ asks ∷ asks ∷ asks ∷ rests ∷ rests ∷ []

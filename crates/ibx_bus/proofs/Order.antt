@@ -3,7 +3,7 @@ use Rattle.std.proofs.Common.{◌≡◌, ℕ, Bool, true, false, not, List, [], 
 use Rattle.std.specs.Prelude.{◌&&◌, ◌==◌}
 use Rattle.ibx_isa.specs.declared.bus.Rsp.{Rsp}
 use Rattle.ibx_plan.specs.declared.site.Wait.{Wait}
-use Rattle.ibx_bus.specs.Memory.{error_of, word_of}
+use Rattle.ibx_bus.specs.Memory.{error_of, answered_word}
 use Rattle.ibx_bus.specs.Port.{PortState, answers, is_wait_over, new_port, port_moves, port_next}
 use Rattle.ibx_bus.specs.PortTimes.{Call, AnswersInOrder, answers_shown, granted_answers, in_front_if, port_after, unanswered}
 
@@ -37,7 +37,7 @@ in_order [] p = opened p []
 in_order (c ∷ cs) p =
     let next : PortState = port_next p c.memory c.request in
     opened p (granted_answers (c ∷ cs) p)
-    ∙ call p.busy (p.left == 0) c.request.valid (is_wait_over p) p (error_of c.memory c.request) (word_of c.memory c.request) (granted_answers cs next) refl
+    ∙ call p.busy (p.left == 0) c.request.valid (is_wait_over p) p (error_of c.memory c.request) (answered_word c.memory c.request) (granted_answers cs next) refl
     ∙ ap (λ (xs : List Rsp). in_front_if (answers p) (answer_with p.err p.word) xs) (in_order cs next)
     ∙ in_front_moves (answers p) (answer_with p.err p.word) (answers_shown cs next) (unanswered (port_after cs next))
 

@@ -4,35 +4,36 @@ use Rattle.std.specs.Prelude.{◌&&◌, ◌==◌, nat_lt, nat_le, slice_index, s
 use Rattle.std.specs.Int.{bit_at}
 use Rattle.std.proofs.lemmas.Nat.{mod_below}
 use Rattle.std.proofs.lemmas.Bool.{and_parts, ltb-true, leb-true, ne_eqb}
+use Rattle.ibx_bits.specs.Bytes.{word_byte}
 use Rattle.ibx_isa.specs.declared.bus.Req.{Req}
 use Rattle.ibx_secded.specs.Code.{payload_of, rewrite_of, syndrome_of}
 use Rattle.ibx_secded.proofs.Laws.{payload_of-rewrite_of, syndrome_of-rewrite_of}
-use Rattle.ibx_bus.specs.Memory.{MemoryState, StoresWord, byte_of, error_of, index_of, is_ram, is_store, memory_after, memory_next, merged, stored, word_at, word_of}
+use Rattle.ibx_bus.specs.Memory.{MemoryState, StoresWord, error_of, index_of, memory_has, is_store, memory_after, memory_next, merged, stored_word, word_at, answered_word}
 use Rattle.ibx_bus.specs.Port.{PortState, grants, is_blocked, is_wait_over, port_moves, port_next}
 
 -- ---- the memory
 
-byte-lt : (place word : ℕ) → byte_of place word < 256
-byte-lt place word = mod_below (word / 2 ^ (8 * place)) 256 (omega arith)
+byte-lt : (word place : ℕ) → word_byte word place < 256
+byte-lt word place = mod_below (word / 256 ^ place) 256 (omega arith)
 
 merged-lt : (enables old new : ℕ) → merged enables old new < 4294967296
 unfolding merged
 merged-lt enables old new =
-    let a = byte-lt 0 (if bit_at enables 0 == 1 then new else old) in
-    let b = byte-lt 1 (if bit_at enables 1 == 1 then new else old) in
-    let c = byte-lt 2 (if bit_at enables 2 == 1 then new else old) in
-    let d = byte-lt 3 (if bit_at enables 3 == 1 then new else old) in
+    let a = byte-lt (if bit_at enables 0 == 1 then new else old) 0 in
+    let b = byte-lt (if bit_at enables 1 == 1 then new else old) 1 in
+    let c = byte-lt (if bit_at enables 2 == 1 then new else old) 2 in
+    let d = byte-lt (if bit_at enables 3 == 1 then new else old) 3 in
     omega arith
 
-stored-whole : (enables old new : ℕ) → enables ≡ 15 → stored enables old new ≡ new
-unfolding stored
+stored-whole : (enables old new : ℕ) → enables ≡ 15 → stored_word enables old new ≡ new
+unfolding stored_word
 stored-whole enables old new e = rw e refl
 
-stored-bytes : (enables old new : ℕ) → enables ≢ 15 → stored enables old new ≡ rewrite_of 32 7 old (merged enables (payload_of 32 old) (payload_of 32 new))
-unfolding stored
+stored-bytes : (enables old new : ℕ) → enables ≢ 15 → stored_word enables old new ≡ rewrite_of 32 7 old (merged enables (payload_of 32 old) (payload_of 32 new))
+unfolding stored_word
 stored-bytes enables old new ne = rw (ne_eqb enables 15 ne) refl
 
-index-lt : (m : MemoryState) (address : ℕ) → is_ram m address ≡ true → index_of m address < length m.words
+index-lt : (m : MemoryState) (address : ℕ) → memory_has m address ≡ true → index_of m address < length m.words
 index-lt m address e =
     let low : m.base ≤ address = leb-true m.base address (and_parts (nat_le m.base address) (nat_lt address (m.base + 4 * length m.words)) e).0 in
     let high : address < m.base + 4 * length m.words = ltb-true address (m.base + 4 * length m.words) (and_parts (nat_le m.base address) (nat_lt address (m.base + 4 * length m.words)) e).1 in
@@ -43,15 +44,15 @@ unfolding memory_next
 unchanged true m r e = rw e refl
 unchanged false m r e = refl
 
-written : (m : MemoryState) (r : Req) → is_store m r ≡ true → memory_next m r ≡ record m { words = slice_set m.words (index_of m r.addr) (stored r.be (word_at m r.addr) r.word) }
+written : (m : MemoryState) (r : Req) → is_store m r ≡ true → memory_next m r ≡ record m { words = slice_set m.words (index_of m r.addr) (stored_word r.be (word_at m r.addr) r.word) }
 unfolding memory_next
 written m r e = rw e refl
 
 pub stores : (granted : Bool) (m : MemoryState) (r : Req) → (granted && is_store m r) ≡ true → StoresWord m (memory_after granted m r) r
 stores false m r e = cc
 stores true m r e =
-    let inside : index_of m r.addr < length m.words = index-lt m r.addr (and_parts r.write (is_ram m r.addr) e).1 in
-    let here : word_at (record m { words = slice_set m.words (index_of m r.addr) (stored r.be (word_at m r.addr) r.word) }) r.addr ≡ stored r.be (word_at m r.addr) r.word = rw get_or-set_same refl in
+    let inside : index_of m r.addr < length m.words = index-lt m r.addr (and_parts r.write (memory_has m r.addr) e).1 in
+    let here : word_at (record m { words = slice_set m.words (index_of m r.addr) (stored_word r.be (word_at m r.addr) r.word) }) r.addr ≡ stored_word r.be (word_at m r.addr) r.word = rw get_or-set_same refl in
     let value = merged r.be (payload_of 32 (word_at m r.addr)) (payload_of 32 r.word) in
     rw (written m r e) (record {
       whole = λ all. here ∙ stored-whole r.be (word_at m r.addr) r.word all;
@@ -61,7 +62,7 @@ stores true m r e =
 
 -- by whether a store to RAM is granted
 other_by : (m : MemoryState) (r : Req) (b : Bool) → is_store m r ≡ b → (i : ℕ) → i ≢ index_of m r.addr → slice_index (memory_next m r).words i ≡ slice_index m.words i
-other_by m r true e i ne = rw (written m r e) (get_or-set_other m.words (index_of m r.addr) i (stored r.be (word_at m r.addr) r.word) 0 ne)
+other_by m r true e i ne = rw (written m r e) (get_or-set_other m.words (index_of m r.addr) i (stored_word r.be (word_at m r.addr) r.word) 0 ne)
 other_by m r false e i ne = ap (λ (n : MemoryState). slice_index n.words i) (unchanged true m r e)
 
 pub others : (granted : Bool) (m : MemoryState) (r : Req) (i : ℕ) → i ≢ index_of m r.addr → slice_index (memory_after granted m r).words i ≡ slice_index m.words i
@@ -77,7 +78,7 @@ same_base true m r = base_by m r (is_store m r) refl
 same_base false m r = refl
 
 length_by : (m : MemoryState) (r : Req) (b : Bool) → is_store m r ≡ b → length (memory_next m r).words ≡ length m.words
-length_by m r true e = rw (written m r e) (length-set m.words (index_of m r.addr) (stored r.be (word_at m r.addr) r.word))
+length_by m r true e = rw (written m r e) (length-set m.words (index_of m r.addr) (stored_word r.be (word_at m r.addr) r.word))
 length_by m r false e = ap (λ (n : MemoryState). length n.words) (unchanged true m r e)
 
 pub same_length : (granted : Bool) (m : MemoryState) (r : Req) → length (memory_after granted m r).words ≡ length m.words
@@ -109,10 +110,10 @@ kept_by false true false p err word e = refl
 kept_by false true true p err word e = cc
 
 pub new_error : (p : PortState) (m : MemoryState) (r : Req) → grants r.valid p ≡ true → (port_next p m r).err ≡ error_of m r
-new_error p m r e = error_by (is_blocked p) r.valid (is_wait_over p) p (error_of m r) (word_of m r) e
+new_error p m r e = error_by (is_blocked p) r.valid (is_wait_over p) p (error_of m r) (answered_word m r) e
 
-pub new_word : (p : PortState) (m : MemoryState) (r : Req) → grants r.valid p ≡ true → (port_next p m r).word ≡ word_of m r
-new_word p m r e = word_by (is_blocked p) r.valid (is_wait_over p) p (error_of m r) (word_of m r) e
+pub new_word : (p : PortState) (m : MemoryState) (r : Req) → grants r.valid p ≡ true → (port_next p m r).word ≡ answered_word m r
+new_word p m r e = word_by (is_blocked p) r.valid (is_wait_over p) p (error_of m r) (answered_word m r) e
 
 pub kept_word : (p : PortState) (m : MemoryState) (r : Req) → grants r.valid p ≡ false → (port_next p m r).word ≡ p.word
-kept_word p m r e = kept_by (is_blocked p) r.valid (is_wait_over p) p (error_of m r) (word_of m r) e
+kept_word p m r e = kept_by (is_blocked p) r.valid (is_wait_over p) p (error_of m r) (answered_word m r) e

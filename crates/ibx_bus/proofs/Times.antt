@@ -4,7 +4,7 @@ use Rattle.std.specs.Prelude.{◌&&◌, ◌||◌}
 use Rattle.std.proofs.Math.Nat.{zero-mod}
 use Rattle.std.proofs.lemmas.Bool.{lt-ltb, le-ltb, cases_eq}
 use Rattle.ibx_plan.specs.declared.site.Wait.{Wait}
-use Rattle.ibx_bus.specs.Memory.{error_of, word_of}
+use Rattle.ibx_bus.specs.Memory.{error_of, answered_word}
 use Rattle.ibx_bus.specs.Port.{PortState, answers, grants, new_port}
 use Rattle.ibx_bus.specs.PortTimes.{Call, Seen, trace, issues, granted_in, answered_in, IsPolite, answer_time, grant_time, grant_times, answer_times, below, in_front_if, trace_of, GrantsInTime, AnswersInTime}
 use Rattle.ibx_bus.proofs.Ports.{Idle, Waiting, Granted, Free, Grants, Waits, moved, place_of, idle_free, idle_silent, waiting_silent, granted_free, granted_answers, granted_silent, free_rests, free_starts, waiting_goes, granted_goes, no_grant}
@@ -200,7 +200,7 @@ unfolding trace
 meets ws limit [] c p o e polite = ends ws limit c p o (omega arith)
 meets ws limit (call ∷ cs) c p o e polite =
     let more : Rest ws limit cs (c + 1) = λ p o polite. meets ws limit cs (c + 1) p o (omega arith) polite in
-    any_meets ws limit cs (error_of call.memory call.request) (word_of call.memory call.request) c p o (omega arith) more call.request.valid polite
+    any_meets ws limit cs (error_of call.memory call.request) (answered_word call.memory call.request) c p o (omega arith) more call.request.valid polite
 
 place_start : (ws : List Wait) → 0 ≡ place_of ws 0
 unfolding place_of

@@ -1,4 +1,3 @@
 pub mod Memory
 pub mod Port
 pub mod PortTimes
-pub mod Wires

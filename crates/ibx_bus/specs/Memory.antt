@@ -1,6 +1,8 @@
 -- The memory behind the two ports. Our own rule.
 use Rattle.std.specs.Prelude.{◌≡◌, ◌≢◌, ℕ, ◌+◌, ◌-◌, ◌*◌, ◌/◌, ◌%◌, ◌<◌, ◌≤◌, ◌^◌, ◌==◌, Bool, not, ◌&&◌, ◌||◌, nat_lt, nat_le, if◌then◌else◌, List, All, length, map, slice_index, slice_set, bit_xor}
 use Rattle.std.specs.Int.{bit_at}
+use Rattle.ibx_bits.specs.Bytes.{word_byte}
+use Rattle.ibx_bits.specs.Platform.{host_page, host_page_end, host_page_has}
 use Rattle.ibx_isa.specs.declared.bus.Req.{Req}
 use Rattle.ibx_secded.specs.Code.{encode_of, payload_of, rewrite_of, syndrome_of}
 
@@ -9,9 +11,9 @@ pub record MemoryState : Type 0 where
   pub base : ℕ
   pub words : List ℕ
 
--- no byte address of this many words from base on lies in the host page, 0x00020000 to 0x00020fff
+-- no byte address of this many words from base on lies in the host page
 abbrev pub MissesHostPage : ℕ → ℕ → Type 0
-MissesHostPage base count = 0 < count → 0x20000 < base + 4 * count → 0x21000 ≤ base
+MissesHostPage base count = 0 < count → host_page < base + 4 * count → host_page_end ≤ base
 
 -- where RAM may lie
 pub record IsMemory (m : MemoryState) : Type 0 where
@@ -21,22 +23,15 @@ pub record IsMemory (m : MemoryState) : Type 0 where
   pub fits : All (λ w. w < 2 ^ 39) m.words
 
 -- the codewords of the words of an image
-abbrev pub memory_of : List ℕ → ℕ → MemoryState
-memory_of image base = record { base = base; words = map (λ v. encode_of 32 7 v) image }
+abbrev pub coded_memory : List ℕ → ℕ → MemoryState
+coded_memory image base = record { base = base; words = map (λ v. encode_of 32 7 v) image }
 
-abbrev pub is_ram : MemoryState → ℕ → Bool
-is_ram m address = nat_le m.base address && nat_lt address (m.base + 4 * length m.words)
-
-abbrev pub is_host_page : ℕ → Bool
-is_host_page address = nat_le 0x20000 address && nat_lt address 0x21000
+abbrev pub memory_has : MemoryState → ℕ → Bool
+memory_has m address = nat_le m.base address && nat_lt address (m.base + 4 * length m.words)
 
 -- the number of the word at an address of RAM
 abbrev pub index_of : MemoryState → ℕ → ℕ
 index_of m address = (address - m.base) / 4
-
--- byte number `place` of a word, from the lowest on
-abbrev pub byte_of : ℕ → ℕ → ℕ
-byte_of place word = word / 2 ^ (8 * place) % 256
 
 -- the word at an address of RAM
 abbrev pub word_at : MemoryState → ℕ → ℕ
@@ -44,7 +39,7 @@ word_at m address = slice_index m.words (index_of m address)
 
 -- a byte of the new word where its enable is set, else of the old word
 abbrev pub lane_of : ℕ → ℕ → ℕ → ℕ → ℕ
-lane_of place enables old new = byte_of place (if bit_at enables place == 1 then new else old)
+lane_of place enables old new = word_byte (if bit_at enables place == 1 then new else old) place
 
 -- the enabled bytes of the new word and the other bytes of the old one
 unfoldable pub merged : ℕ → ℕ → ℕ → ℕ
@@ -53,20 +48,20 @@ merged enables old new =
 
 -- what a store leaves of a word: with four enables the word of the wires as it came, and with fewer the merged bytes under
 -- the syndrome that the word had
-unfoldable pub stored : ℕ → ℕ → ℕ → ℕ
+unfoldable pub stored_word : ℕ → ℕ → ℕ → ℕ
 unfolding merged
-stored enables old new = if enables == 15 then new else rewrite_of 32 7 old (merged enables (payload_of 32 old) (payload_of 32 new))
+stored_word enables old new = if enables == 15 then new else rewrite_of 32 7 old (merged enables (payload_of 32 old) (payload_of 32 new))
 
 -- whether a transaction stores to RAM
 abbrev pub is_store : MemoryState → Req → Bool
-is_store m r = r.write && is_ram m r.addr
+is_store m r = r.write && memory_has m r.addr
 
 -- the memory after a transaction
 unfoldable pub memory_next : MemoryState → Req → MemoryState
-unfolding stored
+unfolding stored_word
 memory_next m r =
     if is_store m r
-    then record m { words = slice_set m.words (index_of m r.addr) (stored r.be (word_at m r.addr) r.word) }
+    then record m { words = slice_set m.words (index_of m r.addr) (stored_word r.be (word_at m r.addr) r.word) }
     else m
 
 -- the memory after a cycle, by whether the transaction is granted in it
@@ -82,11 +77,11 @@ pub record StoresWord (old new : MemoryState) (r : Req) : Type 0 where
 
 -- whether its answer is an error: the word lies neither in RAM nor in the host page
 abbrev pub error_of : MemoryState → Req → Bool
-error_of m r = not (is_ram m r.addr || is_host_page r.addr)
+error_of m r = not (memory_has m r.addr || host_page_has r.addr)
 
 -- the word of its answer: a load from RAM answers the stored word as it is, and all else the codeword of 0
-abbrev pub word_of : MemoryState → Req → ℕ
-word_of m r = if is_ram m r.addr && not r.write then word_at m r.addr else encode_of 32 7 0
+abbrev pub answered_word : MemoryState → Req → ℕ
+answered_word m r = if memory_has m r.addr && not r.write then word_at m r.addr else encode_of 32 7 0
 
 -- one bit of one word is changed
 abbrev pub memory_flip : MemoryState → ℕ → ℕ → MemoryState

@@ -4,7 +4,7 @@ use Rattle.ibx_isa.specs.declared.bus.Req.{Req}
 use Rattle.ibx_isa.specs.declared.bus.Rsp.{Rsp}
 use Rattle.ibx_plan.specs.declared.site.Wait.{Wait}
 use Rattle.ibx_secded.specs.Code.{encode_of}
-use Rattle.ibx_bus.specs.Memory.{MemoryState, error_of, word_of}
+use Rattle.ibx_bus.specs.Memory.{MemoryState, error_of, answered_word}
 
 -- The list of waits and the place in it of the next transaction; the waited cycles of the request; whether a transaction
 -- is granted and not answered before this cycle, and how many cycles after this one it answers; whether the last
@@ -68,7 +68,7 @@ port_moves false true true p err word =
     }
 
 abbrev pub port_next : PortState → MemoryState → Req → PortState
-port_next p m r = port_moves (is_blocked p) r.valid (is_wait_over p) p (error_of m r) (word_of m r)
+port_next p m r = port_moves (is_blocked p) r.valid (is_wait_over p) p (error_of m r) (answered_word m r)
 
 -- a port whose counts are those of its list: none is waited for while a transaction is open
 pub record IsPort (p : PortState) : Type 0 where

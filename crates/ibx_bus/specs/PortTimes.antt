@@ -3,7 +3,7 @@ use Rattle.std.specs.Prelude.{◌≡◌, ℕ, suc, ◌+◌, ◌%◌, Bool, true,
 use Rattle.ibx_isa.specs.declared.bus.Req.{Req}
 use Rattle.ibx_isa.specs.declared.bus.Rsp.{Rsp}
 use Rattle.ibx_plan.specs.declared.site.Wait.{Wait}
-use Rattle.ibx_bus.specs.Memory.{MemoryState, error_of, word_of}
+use Rattle.ibx_bus.specs.Memory.{MemoryState, error_of, answered_word}
 use Rattle.ibx_bus.specs.Port.{PortState, answers, grants, new_port, port_next, wait_at}
 
 -- one call: the wires of the cycle and the memory, in which the other port may have stored since the last call
@@ -95,7 +95,7 @@ AnswersInTime waits calls =
 unfoldable pub granted_answers : List Call → PortState → List Rsp
 granted_answers [] p = []
 granted_answers (c ∷ cs) p =
-    in_front_if (grants c.request.valid p) (record { valid = true; err = error_of c.memory c.request; word = word_of c.memory c.request })
+    in_front_if (grants c.request.valid p) (record { valid = true; err = error_of c.memory c.request; word = answered_word c.memory c.request })
     (granted_answers cs (port_next p c.memory c.request))
 
 -- the answers that are seen in these calls

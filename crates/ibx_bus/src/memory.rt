@@ -1,10 +1,12 @@
 ghost use Rattle.std.specs.Prelude.{◌≡◌, ◌≢◌, ◌<◌, ◌≤◌, ◌^◌, ◌*◌, ◌+◌, ◌%◌, ℕ, IfOk, length, slice_index, bit_xor, true, false};
+ghost use Rattle.ibx_bits.specs.Platform.{host_page_has};
 ghost use Rattle.ibx_secded.specs.Code.{encode_of};
-ghost use Rattle.ibx_bus.specs.Memory.{MissesHostPage, error_of, is_host_page, is_ram, memory_flip, memory_next, memory_of, word_of};
-ghost use Rattle.ibx_bus.specs.Wires.{IsRequest};
+ghost use Rattle.ibx_bus.specs.Memory.{MissesHostPage, error_of, memory_has, memory_flip, memory_next, coded_memory, answered_word};
+ghost use Rattle.ibx_isa.specs.Wires.{IsRequest};
 
 use crate::merge::store;
 use ibx_base::NoMemory;
+use ibx_bits::host_page_has;
 use ibx_isa::Req;
 use ibx_secded::Code;
 use std::alloc::Global;
@@ -36,23 +38,6 @@ pub(crate) fn zero_word() -> u64
     0x2a_0000_0000
 }
 
-/// A word with one bit changed.
-#[tactic(auto, using(crate::proofs::Words::flips))]
-pub(crate) fn with_flip(word: u64, bit: u8) -> u64
-    requires bit { bit < 39 }
-    requires fits { word < 2 ^ 39 }
-    ensures value { result ≡ bit_xor word (2 ^ bit) }
-    ensures fits { result < 2 ^ 39 }
-{
-    word ^ (1 << bit)
-}
-
-fn in_host_page(addr: u32) -> bool
-    ensures { result ≡ is_host_page addr }
-{
-    addr >= 0x20000 && addr < 0x21000
-}
-
 /// What a transaction answers with.
 #[derive(Clone, Copy)]
 pub(crate) struct Answer {
@@ -67,7 +52,7 @@ impl Memory {
         requires aligned { base % 4 ≡ 0 }
         requires ends { base + 4 * length image.now ≤ 2 ^ 32 }
         requires apart { MissesHostPage base (length image.now) }
-        ensures { IfOk result (λ m. m ≡ memory_of image.now base) }
+        ensures { IfOk result (λ m. m ≡ coded_memory image.now base) }
     {
         let words = image
             .iter()
@@ -83,13 +68,13 @@ impl Memory {
         ensures value { self.new ≡ memory_flip self.old word bit }
         ensures others { (j : ℕ) → j ≢ word → slice_index self.new.words j ≡ slice_index self.old.words j }
     {
-        let changed = with_flip(self.words[word as usize], bit);
+        let changed = Code::<32, 7>::flip(self.words[word as usize], bit);
         self.words[word as usize] = changed;
     }
 
     fn in_ram(&self, addr: u32) -> bool
-        ensures value { result ≡ is_ram self.now addr }
-        ensures apart { is_host_page addr ≡ true → result ≡ false }
+        ensures value { result ≡ memory_has self.now addr }
+        ensures apart { host_page_has addr ≡ true → result ≡ false }
     {
         addr >= self.base && ((addr - self.base) as usize) < 4 * self.words.len()
     }
@@ -99,14 +84,14 @@ impl Memory {
     pub(crate) fn access(&mut self, req: &Req) -> Answer
         requires { IsRequest req.now }
         ensures err { result.err ≡ error_of self.old req.now }
-        ensures word { result.word ≡ word_of self.old req.now }
+        ensures word { result.word ≡ answered_word self.old req.now }
         ensures fits { result.word < 2 ^ 39 }
         ensures memory { self.new ≡ memory_next self.old req.now }
-        ensures host { is_host_page req.now.addr ≡ true → self.new ≡ self.old }
+        ensures host { host_page_has req.now.addr ≡ true → self.new ≡ self.old }
     {
         if !self.in_ram(req.addr) {
             return Answer {
-                err: !in_host_page(req.addr),
+                err: !host_page_has(req.addr),
                 word: zero_word(),
             };
         }

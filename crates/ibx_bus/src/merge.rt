@@ -1,10 +1,11 @@
 ghost use Rattle.std.specs.Prelude.{◌≡◌, ◌<◌, ◌^◌, ◌*◌, ◌/◌, ◌%◌, ◌+◌};
 ghost use Rattle.ibx_secded.specs.Code.{payload_of};
-ghost use Rattle.ibx_bus.specs.Memory.{lane_of, merged, stored};
+ghost use Rattle.ibx_bus.specs.Memory.{lane_of, merged, stored_word};
 
 use ibx_secded::Code;
 
 /// Byte number `place` of the new word where its enable is set, else of the old word.
+#[tactic(auto, using(ibx_bits::proofs::Bytes::byte_by_shift))]
 fn lane(place: u8, enables: u8, old: u64, new: u64) -> u64
     requires { place < 4 }
     ensures value { result ≡ lane_of place enables old new }
@@ -31,11 +32,11 @@ fn merge(enables: u8, old: u64, new: u64) -> u64
 
 /// What a store leaves of a word: with four enables the word of the wires as it came, and with fewer the merged bytes
 /// under the syndrome that the word had, so that a flip in it stays told.
-#[tactic(auto, unfolding(crate::specs::Memory::stored))]
+#[tactic(auto, unfolding(crate::specs::Memory::stored_word))]
 pub(crate) fn store(enables: u8, old: u64, new: u64) -> u64
     requires old_fits { old < 2 ^ 39 }
     requires new_fits { new < 2 ^ 39 }
-    ensures value { result ≡ stored enables old new }
+    ensures value { result ≡ stored_word enables old new }
     ensures fits { result < 2 ^ 39 }
 {
     if enables == 15 {

@@ -1,12 +1,14 @@
 ghost use Rattle.std.specs.Prelude.{◌≡◌, ◌≢◌, ◌<◌, ◌≤◌, ◌^◌, ◌&&◌, ℕ, List, true, false, length, slice_index};
-ghost use Rattle.ibx_bus.specs.Memory.{StoresWord, error_of, index_of, is_host_page, is_store, memory_after, word_of};
+ghost use Rattle.ibx_bits.specs.Platform.{host_page_has};
+ghost use Rattle.ibx_bus.specs.Memory.{StoresWord, error_of, index_of, is_store, memory_after, answered_word};
 ghost use Rattle.ibx_bus.specs.Port.{answer_wires, grants, new_port, next_place, port_flip, port_next, wait_at};
 ghost use Rattle.ibx_bus.specs.PortTimes.{AnswersInOrder, AnswersInTime, Call, GrantsInTime};
-ghost use Rattle.ibx_bus.specs.Wires.{IsRequest};
+ghost use Rattle.ibx_isa.specs.Wires.{IsRequest};
 
-use crate::memory::{Memory, with_flip, zero_word};
+use crate::memory::{Memory, zero_word};
 use ibx_isa::{Req, Rsp};
 use ibx_plan::Wait;
+use ibx_secded::Code;
 use std::marker::Model;
 
 /// One port of the bus, over its list of waits.
@@ -117,14 +119,14 @@ impl<'w> Port<'w> {
 
         // A grant replaces the kept answer by that of its transaction, and nothing else does.
         ensures error { result ≡ true → self.new.err ≡ error_of mem.old req.now }
-        ensures word { result ≡ true → self.new.word ≡ word_of mem.old req.now }
+        ensures word { result ≡ true → self.new.word ≡ answered_word mem.old req.now }
         ensures kept { result ≡ false → self.new.word ≡ self.old.word }
 
         // Only a store to RAM that is granted changes a word, and it changes that word alone.
         ensures unchanged { (result && is_store mem.old req.now) ≡ false → mem.new ≡ mem.old }
         ensures stores { (result && is_store mem.old req.now) ≡ true → StoresWord mem.old mem.new req.now }
         ensures others { (i : ℕ) → i ≢ index_of mem.old req.now.addr → slice_index mem.new.words i ≡ slice_index mem.old.words i }
-        ensures host { is_host_page req.now.addr ≡ true → mem.new ≡ mem.old }
+        ensures host { host_page_has req.now.addr ≡ true → mem.new ≡ mem.old }
         ensures base { mem.new.base ≡ mem.old.base }
         ensures length { length mem.new.words ≡ length mem.old.words }
     {
@@ -138,7 +140,7 @@ impl<'w> Port<'w> {
         ensures next { self.new ≡ port_next self.old mem.old req.now }
         ensures memory { mem.new ≡ memory_after result mem.old req.now }
         ensures broken_off { req.now.valid ≡ false → self.new.waited ≡ 0 }
-        ensures host { is_host_page req.now.addr ≡ true → mem.new ≡ mem.old }
+        ensures host { host_page_has req.now.addr ≡ true → mem.new ≡ mem.old }
     {
         if self.busy && self.left != 0 {
             self.left -= 1;
@@ -169,6 +171,6 @@ impl<'w> Port<'w> {
         requires { bit < 39 }
         ensures { self.new ≡ port_flip self.old bit }
     {
-        self.word = with_flip(self.word, bit);
+        self.word = Code::<32, 7>::flip(self.word, bit);
     }
 }

@@ -1,4 +1,4 @@
-ghost use Rattle.ibx_bus.specs.Wires.{IsRequest};
+ghost use Rattle.ibx_isa.specs.Wires.{IsRequest};
 
 use super::*;
 use crate::{Memory, Port};

@@ -1,15 +1,16 @@
 -- The fields hold the registers: what a call does to the fields is what it does to the registers.
 use Rattle.std.proofs.Common.{inl, inr, ◌≡◌, ◌≢◌, ℕ, ◌+◌, ◌*◌, ◌/◌, ◌%◌, ◌^◌, ◌<◌, Bool, true, false, refl, sym, ap, ◌∙◌, arith, get_or-set_other}
-use Rattle.std.specs.Prelude.{◌==◌, Option, Some, None, if◌then◌else◌, slice_index, slice_set, bit_and}
+use Rattle.std.specs.Prelude.{◌==◌, Option, Some, None, is_some, if◌then◌else◌, slice_index, slice_set, bit_and}
 use Rattle.std.proofs.lemmas.Bool.{cases_eq, cases_Bool, ne_eqb}
 use Rattle.std.proofs.Math.Nat.{add-mul-mod_self_left}
 use Rattle.std.proofs.lemmas.List.{set_past}
+use Rattle.ibx_isa.specs.ControlBits.{cy_bit}
 use Rattle.ibx_csr.specs.declared.name.Csr.{Csr}
-use Rattle.ibx_csr.specs.declared.name.Csr.TheVariants.{Mstatus, Misa, Mie, Mtvec, Mcountinhibit, Mscratch, Mepc, Mcause, Mtval, Mip, Pmpcfg, Pmpaddr, Cpuctrl, Secureseed, Mcycle, Mcycleh, Minstret, Minstreth, Marchid, Zero}
+use Rattle.ibx_csr.specs.declared.name.Csr.TheVariants.{Mstatus, Mie, Mtvec, Mcountinhibit, Mscratch, Mepc, Mcause, Mtval, Pmpcfg, Pmpaddr, Cpuctrl, Mcycle, Mcycleh, Minstret, Minstreth}
 use Rattle.ibx_csr.specs.declared.csrs.Csrs.{Csrs}
-use Rattle.ibx_csr.specs.Table.{writable, csr_of, is_read_only}
+use Rattle.ibx_csr.specs.Table.{readable, writable, csr_of, is_read_only}
 use Rattle.ibx_csr.specs.Kept.{is_addr_locked, stored_cfg}
-use Rattle.ibx_csr.specs.Values.{CsrValues, value_of, put_value, put_at as put_value_at, csr_write, csr_tick, counters_after, cfg_bytes}
+use Rattle.ibx_csr.specs.Values.{CsrValues, value_of, value_at, is_there, csr_read, put_value, put_at as put_value_at, csr_write, csr_tick, counters_after, cfg_bytes}
 use Rattle.ibx_csr.specs.Fields.{values, cfgs, addrs, put_cfg, put_addr, put_of, put_at, write_of}
 
 put_cfg-values : (s : Csrs) (k w : ℕ) → values (put_cfg s k w) ≡ record (values s) { pmpcfg = slice_set (cfgs s) k w }
@@ -28,26 +29,9 @@ unless_locked s k w false = put_addr-values s k w
 
 put-values : (s : Csrs) (c : Csr) (w : ℕ) → values (put_of s c w) ≡ put_value (values s) c w
 unfolding values put_of put_value
-put-values s Mstatus w = refl
-put-values s Misa w = refl
-put-values s Mie w = refl
-put-values s Mtvec w = refl
-put-values s Mcountinhibit w = refl
-put-values s Mscratch w = refl
-put-values s Mepc w = refl
-put-values s Mcause w = refl
-put-values s Mtval w = refl
-put-values s Mip w = refl
 put-values s (Pmpcfg k) w = put_cfg-values s k (stored_cfg (slice_index (cfgs s) k) w)
 put-values s (Pmpaddr k) w = unless_locked s k w (is_addr_locked (cfg_bytes (values s)) k)
-put-values s Cpuctrl w = refl
-put-values s Secureseed w = refl
-put-values s Mcycle w = refl
-put-values s Mcycleh w = refl
-put-values s Minstret w = refl
-put-values s Minstreth w = refl
-put-values s Marchid w = refl
-put-values s Zero w = refl
+put-values s _ w = refl
 
 put_at-values : (s : Csrs) (w : ℕ) (o : Option Csr) → values (put_at s w o) ≡ put_value_at (values s) w o
 put_at-values s w (Some c) = put-values s c w
@@ -67,44 +51,26 @@ addr-stays v k _ w lines false ne = refl
 -- a write to one register leaves the others, and the mode
 stays : (v : CsrValues) (c d : Csr) (w lines : ℕ) → w < 2 ^ 32 → c ≢ d → value_of (put_value v c w) d lines ≡ value_of v d lines
 unfolding put_value value_of
-stays v Mstatus Mstatus w lines small ne = absurd (ne refl)
-stays v Mstatus _ w lines small ne = refl
-stays v Misa d w lines small ne = refl
-stays v Mie Mie w lines small ne = absurd (ne refl)
-stays v Mie _ w lines small ne = refl
-stays v Mtvec Mtvec w lines small ne = absurd (ne refl)
-stays v Mtvec _ w lines small ne = refl
-stays v Mcountinhibit Mcountinhibit w lines small ne = absurd (ne refl)
-stays v Mcountinhibit _ w lines small ne = refl
-stays v Mscratch Mscratch w lines small ne = absurd (ne refl)
-stays v Mscratch _ w lines small ne = refl
-stays v Mepc Mepc w lines small ne = absurd (ne refl)
-stays v Mepc _ w lines small ne = refl
-stays v Mcause Mcause w lines small ne = absurd (ne refl)
-stays v Mcause _ w lines small ne = refl
-stays v Mtval Mtval w lines small ne = absurd (ne refl)
-stays v Mtval _ w lines small ne = refl
-stays v Mip d w lines small ne = refl
 stays v (Pmpcfg k) (Pmpcfg j) w lines small ne = get_or-set_other v.pmpcfg k j _ 0 (λ e. ne (ap Pmpcfg (sym e)))
-stays v (Pmpcfg k) _ w lines small ne = refl
 stays v (Pmpaddr k) d w lines small ne = addr-stays v k d w lines (is_addr_locked (cfg_bytes v) k) ne
-stays v Cpuctrl Cpuctrl w lines small ne = absurd (ne refl)
-stays v Cpuctrl _ w lines small ne = refl
-stays v Secureseed d w lines small ne = refl
-stays v Mcycle Mcycle w lines small ne = absurd (ne refl)
 stays v Mcycle Mcycleh w lines small ne = omega arith
-stays v Mcycle _ w lines small ne = refl
-stays v Mcycleh Mcycleh w lines small ne = absurd (ne refl)
 stays v Mcycleh Mcycle w lines small ne = omega arith
-stays v Mcycleh _ w lines small ne = refl
-stays v Minstret Minstret w lines small ne = absurd (ne refl)
 stays v Minstret Minstreth w lines small ne = omega arith
-stays v Minstret _ w lines small ne = refl
-stays v Minstreth Minstreth w lines small ne = absurd (ne refl)
 stays v Minstreth Minstret w lines small ne = omega arith
-stays v Minstreth _ w lines small ne = refl
-stays v Marchid d w lines small ne = refl
-stays v Zero d w lines small ne = refl
+stays v Mstatus Mstatus w lines small ne = absurd (ne refl)
+stays v Mie Mie w lines small ne = absurd (ne refl)
+stays v Mtvec Mtvec w lines small ne = absurd (ne refl)
+stays v Mcountinhibit Mcountinhibit w lines small ne = absurd (ne refl)
+stays v Mscratch Mscratch w lines small ne = absurd (ne refl)
+stays v Mepc Mepc w lines small ne = absurd (ne refl)
+stays v Mcause Mcause w lines small ne = absurd (ne refl)
+stays v Mtval Mtval w lines small ne = absurd (ne refl)
+stays v Cpuctrl Cpuctrl w lines small ne = absurd (ne refl)
+stays v Mcycle Mcycle w lines small ne = absurd (ne refl)
+stays v Mcycleh Mcycleh w lines small ne = absurd (ne refl)
+stays v Minstret Minstret w lines small ne = absurd (ne refl)
+stays v Minstreth Minstreth w lines small ne = absurd (ne refl)
+stays v _ _ w lines small ne = refl
 
 stays_at : (v : CsrValues) (o : Option Csr) (d : Csr) (w lines : ℕ) → w < 2 ^ 32 → o ≢ Some d → value_of (put_value_at v w o) d lines ≡ value_of v d lines
 stays_at v (Some c) d w lines small ne = stays v c d w lines small (λ e. ne (ap Some e))
@@ -121,26 +87,8 @@ write-others v a w d lines small ne = stays_at v (writable v.machine a) d w line
 
 put-machine : (v : CsrValues) (c : Csr) (w : ℕ) → (put_value v c w).machine ≡ v.machine
 unfolding put_value
-put-machine v Mstatus w = refl
-put-machine v Misa w = refl
-put-machine v Mie w = refl
-put-machine v Mtvec w = refl
-put-machine v Mcountinhibit w = refl
-put-machine v Mscratch w = refl
-put-machine v Mepc w = refl
-put-machine v Mcause w = refl
-put-machine v Mtval w = refl
-put-machine v Mip w = refl
-put-machine v (Pmpcfg k) w = refl
 put-machine v (Pmpaddr k) w = elim (cases_Bool (is_addr_locked (cfg_bytes v) k)) [ inl e ↦ rw e refl | inr e ↦ rw e refl ]
-put-machine v Cpuctrl w = refl
-put-machine v Secureseed w = refl
-put-machine v Mcycle w = refl
-put-machine v Mcycleh w = refl
-put-machine v Minstret w = refl
-put-machine v Minstreth w = refl
-put-machine v Marchid w = refl
-put-machine v Zero w = refl
+put-machine v _ w = refl
 
 put_at-machine : (v : CsrValues) (w : ℕ) (o : Option Csr) → (put_value_at v w o).machine ≡ v.machine
 put_at-machine v w (Some c) = put-machine v c w
@@ -150,6 +98,28 @@ pub write-machine : (v : CsrValues) (a w : ℕ) → (csr_write v a w).machine �
 unfolding csr_write
 write-machine v a w = put_at-machine v w (writable v.machine a)
 
+-- whether an address reads as something depends on the mode and on it alone
+known_by : (v : CsrValues) (lines : ℕ) (o : Option Csr) → is_some (value_at v lines o) ≡ is_there o
+known_by v lines None = refl
+known_by v lines (Some c) = refl
+
+pub read-known : (v : CsrValues) (a lines : ℕ) → is_some (csr_read v a lines) ≡ is_there (readable v.machine a)
+unfolding csr_read
+read-known v a lines = known_by v lines (readable v.machine a)
+
+pub read-alike : (v w : CsrValues) (a k l : ℕ) → v.machine ≡ w.machine → is_some (csr_read v a k) ≡ is_some (csr_read w a l)
+read-alike v w a k l e = read-known v a k ∙ ap (λ (m : Bool). is_there (readable m a)) e ∙ sym (read-known w a l)
+
+-- no cycle at all
+pub counters-none : (v : CsrValues) → v.mcycle < 2 ^ 64 → counters_after v 0 ≡ v
+unfolding counters_after
+counters-none v small =
+    let same : (v.mcycle + 0) % 2 ^ 64 ≡ v.mcycle = omega arith in
+    elim (cases_Bool (bit_and v.mcountinhibit cy_bit == 0)) [
+      | inl e ↦ rw e (ap (λ (m : ℕ). record v { mcycle = m }) same)
+      | inr e ↦ rw e refl
+    ]
+
 -- one more idle cycle
 one_more : (m n : ℕ) → ((m + n) % 2 ^ 64 + 1) % 2 ^ 64 ≡ (m + (n + 1)) % 2 ^ 64
 one_more m n =
@@ -158,7 +128,7 @@ one_more m n =
 
 pub counters-step : (v : CsrValues) (n : ℕ) → csr_tick (counters_after v n) false None ≡ counters_after v (n + 1)
 unfolding csr_tick counters_after
-counters-step v n = elim (cases_Bool (bit_and v.mcountinhibit 1 == 0)) [
+counters-step v n = elim (cases_Bool (bit_and v.mcountinhibit cy_bit == 0)) [
   | inl e ↦ rw e (ap (λ (m : ℕ). record v { mcycle = m }) (one_more v.mcycle n))
   | inr e ↦ rw e refl
 ]

@@ -1,18 +1,17 @@
 -- The registers as the fields of the unit, with the complements of the guarded ones; each call has a meaning
 -- on every value of the fields.
-use Rattle.std.specs.Prelude.{◌≡◌, ℕ, ◌-◌, ◌^◌, List, [], ◌∷◌, Option, Some, None, Bool, true, not, ◌||◌, ◌==◌, if◌then◌else◌, slice_index}
+use Rattle.std.specs.Prelude.{◌≡◌, ℕ, ◌^◌, List, [], ◌∷◌, Option, Some, None, Bool, true, not, ◌||◌, ◌==◌, if◌then◌else◌, slice_index, ◌+◌, ◌%◌, bit_and}
 use Rattle.std.specs.List.{list_any}
+use Rattle.ibx_bits.specs.Bytes.{complement}
 use Rattle.ibx_isa.specs.declared.trap.TrapRegs.{TrapRegs}
 use Rattle.ibx_csr.specs.declared.name.Csr.{Csr}
-use Rattle.ibx_csr.specs.declared.name.Csr.TheVariants.{Mstatus, Misa, Mie, Mtvec, Mcountinhibit, Mscratch, Mepc, Mcause, Mtval, Mip, Pmpcfg, Pmpaddr, Cpuctrl, Secureseed, Mcycle, Mcycleh, Minstret, Minstreth, Marchid, Zero}
+use Rattle.ibx_csr.specs.declared.name.Csr.TheVariants.{Mstatus, Mie, Mtvec, Mcountinhibit, Mscratch, Mepc, Mcause, Mtval, Pmpcfg, Pmpaddr, Cpuctrl, Mcycle, Mcycleh, Minstret, Minstreth}
 use Rattle.ibx_csr.specs.declared.csrs.Csrs.{Csrs}
 use Rattle.ibx_csr.specs.Table.{writable}
-use Rattle.ibx_csr.specs.Kept.{stored_mstatus, kept_mie, kept_mtvec, kept_mcountinhibit, kept_mepc, kept_mcause, kept_cpuctrl, with_low, with_high, stored_cfg, is_addr_locked}
+use Rattle.ibx_csr.specs.Kept.{stored_mstatus, with_low, with_high, stored_cfg, is_addr_locked}
 use Rattle.ibx_csr.specs.Values.{CsrValues, counted, mcycle_stands, minstret_stands, cfg_bytes, kept_regs}
-
--- the complement of a word
-abbrev pub complement : ℕ → ℕ
-complement n = 2 ^ 32 - 1 - n
+use Rattle.ibx_isa.specs.ControlBits.{cy_bit}
+use Rattle.ibx_csr.specs.Bits.{legal_of, at_reset}
 
 -- the words of configuration and the addresses of the protection unit
 abbrev pub cfgs : Csrs → List ℕ
@@ -42,62 +41,62 @@ values s = record {
 
 -- at reset, with the complements
 unfoldable pub reset_of : ℕ → Csrs
-reset_of entry = let mtvec = kept_mtvec entry in record {
+reset_of entry = let mtvec = legal_of Mtvec entry in let cfg = at_reset (Pmpcfg 0) in let addr = at_reset (Pmpaddr 0) in record {
   priv_ = true;
-  mstatus = 0x80;
-  mie = 0;
+  mstatus = at_reset Mstatus;
+  mie = at_reset Mie;
   mtvec = mtvec;
-  mscratch = 0;
-  mepc = 0;
-  mcause = 0;
-  mtval = 0;
-  cpuctrl = 0;
-  mcountinhibit = 0;
+  mscratch = at_reset Mscratch;
+  mepc = at_reset Mepc;
+  mcause = at_reset Mcause;
+  mtval = at_reset Mtval;
+  cpuctrl = at_reset Cpuctrl;
+  mcountinhibit = at_reset Mcountinhibit;
   mcycle = 0;
   minstret = 0;
-  pmpcfg0 = 0;
-  pmpcfg1 = 0;
-  pmpcfg2 = 0;
-  pmpcfg3 = 0;
-  pmpaddr0 = 0;
-  pmpaddr1 = 0;
-  pmpaddr2 = 0;
-  pmpaddr3 = 0;
-  pmpaddr4 = 0;
-  pmpaddr5 = 0;
-  pmpaddr6 = 0;
-  pmpaddr7 = 0;
-  pmpaddr8 = 0;
-  pmpaddr9 = 0;
-  pmpaddr10 = 0;
-  pmpaddr11 = 0;
-  pmpaddr12 = 0;
-  pmpaddr13 = 0;
-  pmpaddr14 = 0;
-  pmpaddr15 = 0;
-  mstatus_n = complement 0x80;
+  pmpcfg0 = cfg;
+  pmpcfg1 = cfg;
+  pmpcfg2 = cfg;
+  pmpcfg3 = cfg;
+  pmpaddr0 = addr;
+  pmpaddr1 = addr;
+  pmpaddr2 = addr;
+  pmpaddr3 = addr;
+  pmpaddr4 = addr;
+  pmpaddr5 = addr;
+  pmpaddr6 = addr;
+  pmpaddr7 = addr;
+  pmpaddr8 = addr;
+  pmpaddr9 = addr;
+  pmpaddr10 = addr;
+  pmpaddr11 = addr;
+  pmpaddr12 = addr;
+  pmpaddr13 = addr;
+  pmpaddr14 = addr;
+  pmpaddr15 = addr;
+  mstatus_n = complement (at_reset Mstatus);
   mtvec_n = complement mtvec;
-  cpuctrl_n = complement 0;
-  pmpcfg0_n = complement 0;
-  pmpcfg1_n = complement 0;
-  pmpcfg2_n = complement 0;
-  pmpcfg3_n = complement 0;
-  pmpaddr0_n = complement 0;
-  pmpaddr1_n = complement 0;
-  pmpaddr2_n = complement 0;
-  pmpaddr3_n = complement 0;
-  pmpaddr4_n = complement 0;
-  pmpaddr5_n = complement 0;
-  pmpaddr6_n = complement 0;
-  pmpaddr7_n = complement 0;
-  pmpaddr8_n = complement 0;
-  pmpaddr9_n = complement 0;
-  pmpaddr10_n = complement 0;
-  pmpaddr11_n = complement 0;
-  pmpaddr12_n = complement 0;
-  pmpaddr13_n = complement 0;
-  pmpaddr14_n = complement 0;
-  pmpaddr15_n = complement 0;
+  cpuctrl_n = complement (at_reset Cpuctrl);
+  pmpcfg0_n = complement cfg;
+  pmpcfg1_n = complement cfg;
+  pmpcfg2_n = complement cfg;
+  pmpcfg3_n = complement cfg;
+  pmpaddr0_n = complement addr;
+  pmpaddr1_n = complement addr;
+  pmpaddr2_n = complement addr;
+  pmpaddr3_n = complement addr;
+  pmpaddr4_n = complement addr;
+  pmpaddr5_n = complement addr;
+  pmpaddr6_n = complement addr;
+  pmpaddr7_n = complement addr;
+  pmpaddr8_n = complement addr;
+  pmpaddr9_n = complement addr;
+  pmpaddr10_n = complement addr;
+  pmpaddr11_n = complement addr;
+  pmpaddr12_n = complement addr;
+  pmpaddr13_n = complement addr;
+  pmpaddr14_n = complement addr;
+  pmpaddr15_n = complement addr;
 }
 
 -- a word of configuration or an address with its complement; there is none of a higher number
@@ -132,25 +131,21 @@ put_addr s k v =
 -- a write to a register, with its complement where it is guarded
 unfoldable pub put_of : Csrs → Csr → ℕ → Csrs
 put_of s Mstatus w = record s { mstatus = stored_mstatus w; mstatus_n = complement (stored_mstatus w) }
-put_of s Misa w = s
-put_of s Mie w = record s { mie = kept_mie w }
-put_of s Mtvec w = record s { mtvec = kept_mtvec w; mtvec_n = complement (kept_mtvec w) }
-put_of s Mcountinhibit w = record s { mcountinhibit = kept_mcountinhibit w }
-put_of s Mscratch w = record s { mscratch = w }
-put_of s Mepc w = record s { mepc = kept_mepc w }
-put_of s Mcause w = record s { mcause = kept_mcause w }
-put_of s Mtval w = record s { mtval = w }
-put_of s Mip w = s
+put_of s Mie w = record s { mie = legal_of Mie w }
+put_of s Mtvec w = record s { mtvec = legal_of Mtvec w; mtvec_n = complement (legal_of Mtvec w) }
+put_of s Mcountinhibit w = record s { mcountinhibit = legal_of Mcountinhibit w }
+put_of s Mscratch w = record s { mscratch = legal_of Mscratch w }
+put_of s Mepc w = record s { mepc = legal_of Mepc w }
+put_of s Mcause w = record s { mcause = legal_of Mcause w }
+put_of s Mtval w = record s { mtval = legal_of Mtval w }
 put_of s (Pmpcfg k) w = put_cfg s k (stored_cfg (slice_index (cfgs s) k) w)
 put_of s (Pmpaddr k) w = if is_addr_locked (cfg_bytes (values s)) k then s else put_addr s k w
-put_of s Cpuctrl w = record s { cpuctrl = kept_cpuctrl w; cpuctrl_n = complement (kept_cpuctrl w) }
-put_of s Secureseed w = s
+put_of s Cpuctrl w = record s { cpuctrl = legal_of Cpuctrl w; cpuctrl_n = complement (legal_of Cpuctrl w) }
 put_of s Mcycle w = record s { mcycle = with_low s.mcycle w }
 put_of s Mcycleh w = record s { mcycle = with_high s.mcycle w }
 put_of s Minstret w = record s { minstret = with_low s.minstret w }
 put_of s Minstreth w = record s { minstret = with_high s.minstret w }
-put_of s Marchid w = s
-put_of s Zero w = s
+put_of s _ w = s
 
 abbrev pub put_at : Csrs → ℕ → Option Csr → Csrs
 put_at s w (Some c) = put_of s c w
@@ -166,6 +161,10 @@ tick_of s retired wrote = record s {
   mcycle = counted s.mcycle (mcycle_stands s.mcountinhibit wrote);
   minstret = counted s.minstret (minstret_stands s.mcountinhibit retired wrote);
 }
+
+-- n cycles without a retirement and a write
+unfoldable pub passed : Csrs → ℕ → Csrs
+passed s n = record s { mcycle = if bit_and s.mcountinhibit cy_bit == 0 then (s.mcycle + n) % 2 ^ 64 else s.mcycle }
 
 -- what a trap leaves
 unfoldable pub with_regs : Csrs → TrapRegs → Csrs

@@ -1,4 +1,6 @@
 pub mod Table
+pub mod Bits
 pub mod Kept
 pub mod Values
+pub mod Modes
 pub mod Fields

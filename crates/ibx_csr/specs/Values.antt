@@ -2,9 +2,11 @@
 use Rattle.std.specs.Prelude.{◌≡◌, ◌≢◌, ℕ, ◌+◌, ◌/◌, ◌%◌, ◌^◌, List, [], ◌∷◌, Option, Some, None, Bool, true, false, not, ◌||◌, bit_and, ◌==◌, if◌then◌else◌, slice_index, slice_set}
 use Rattle.ibx_isa.specs.declared.trap.TrapRegs.{TrapRegs}
 use Rattle.ibx_csr.specs.declared.name.Csr.{Csr}
-use Rattle.ibx_csr.specs.declared.name.Csr.TheVariants.{Mstatus, Misa, Mie, Mtvec, Mcountinhibit, Mscratch, Mepc, Mcause, Mtval, Mip, Pmpcfg, Pmpaddr, Cpuctrl, Secureseed, Mcycle, Mcycleh, Minstret, Minstreth, Marchid, Zero}
+use Rattle.ibx_csr.specs.declared.name.Csr.TheVariants.{Mstatus, Mie, Mtvec, Mcountinhibit, Mscratch, Mepc, Mcause, Mtval, Mip, Pmpcfg, Pmpaddr, Cpuctrl, Mcycle, Mcycleh, Minstret, Minstreth}
+use Rattle.ibx_isa.specs.ControlBits.{cy_bit, ir_bit}
+use Rattle.ibx_csr.specs.Bits.{legal_of, at_reset}
 use Rattle.ibx_csr.specs.Table.{csr_of, readable, writable}
-use Rattle.ibx_csr.specs.Kept.{kept_mstatus, stored_mstatus, kept_mie, kept_mtvec, kept_mcountinhibit, kept_mepc, kept_mcause, kept_cpuctrl, with_low, with_high, stored_cfg, bytes_of, is_addr_locked}
+use Rattle.ibx_csr.specs.Kept.{kept_mstatus, stored_mstatus, kept_mtvec, kept_mepc, with_low, with_high, stored_cfg, bytes_of, is_addr_locked}
 
 -- the mode, true for M, the registers, and the counters with 64 bits; four words of configuration and
 -- sixteen addresses of the protection unit
@@ -24,29 +26,28 @@ pub record CsrValues : Type 0 where
   pub pmpcfg : List ℕ
   pub pmpaddr : List ℕ
 
--- at reset the mode is M, MPIE is 1, and the handlers lie below the entry (our own reset values)
+-- at reset the mode is M, and the handlers lie below the entry (our own reset values)
 unfoldable pub csr_reset : ℕ → CsrValues
-csr_reset entry = record {
+csr_reset entry = let cfg = at_reset (Pmpcfg 0) in let addr = at_reset (Pmpaddr 0) in record {
   machine = true;
-  mstatus = 0x80;
-  mie = 0;
-  mtvec = kept_mtvec entry;
-  mscratch = 0;
-  mepc = 0;
-  mcause = 0;
-  mtval = 0;
-  cpuctrl = 0;
-  mcountinhibit = 0;
+  mstatus = at_reset Mstatus;
+  mie = at_reset Mie;
+  mtvec = legal_of Mtvec entry;
+  mscratch = at_reset Mscratch;
+  mepc = at_reset Mepc;
+  mcause = at_reset Mcause;
+  mtval = at_reset Mtval;
+  cpuctrl = at_reset Cpuctrl;
+  mcountinhibit = at_reset Mcountinhibit;
   mcycle = 0;
   minstret = 0;
-  pmpcfg = 0 ∷ 0 ∷ 0 ∷ 0 ∷ [];
-  pmpaddr = 0 ∷ 0 ∷ 0 ∷ 0 ∷ 0 ∷ 0 ∷ 0 ∷ 0 ∷ 0 ∷ 0 ∷ 0 ∷ 0 ∷ 0 ∷ 0 ∷ 0 ∷ 0 ∷ [];
+  pmpcfg = cfg ∷ cfg ∷ cfg ∷ cfg ∷ [];
+  pmpaddr = addr ∷ addr ∷ addr ∷ addr ∷ addr ∷ addr ∷ addr ∷ addr ∷ addr ∷ addr ∷ addr ∷ addr ∷ addr ∷ addr ∷ addr ∷ addr ∷ [];
 }
 
 -- what a register reads; mip reads the interrupt lines
 unfoldable pub value_of : CsrValues → Csr → ℕ → ℕ
 value_of v Mstatus lines = v.mstatus
-value_of v Misa lines = 0x40101104
 value_of v Mie lines = v.mie
 value_of v Mtvec lines = v.mtvec
 value_of v Mcountinhibit lines = v.mcountinhibit
@@ -58,13 +59,11 @@ value_of v Mip lines = lines
 value_of v (Pmpcfg k) lines = slice_index v.pmpcfg k
 value_of v (Pmpaddr k) lines = slice_index v.pmpaddr k
 value_of v Cpuctrl lines = v.cpuctrl
-value_of v Secureseed lines = 0
 value_of v Mcycle lines = v.mcycle % 2 ^ 32
 value_of v Mcycleh lines = v.mcycle / 2 ^ 32
 value_of v Minstret lines = v.minstret % 2 ^ 32
 value_of v Minstreth lines = v.minstret / 2 ^ 32
-value_of v Marchid lines = 0x16
-value_of v Zero lines = 0
+value_of v c lines = at_reset c
 
 abbrev pub value_at : CsrValues → ℕ → Option Csr → Option ℕ
 value_at v lines (Some c) = Some (value_of v c lines)
@@ -78,28 +77,25 @@ csr_read v a lines = value_at v lines (readable v.machine a)
 abbrev pub cfg_bytes : CsrValues → List ℕ
 cfg_bytes v = bytes_of v.pmpcfg
 
--- what a write to a register leaves; secureseed is no register of these
+-- what a write to a register leaves: its legal bits, and where it has a rule of its own, what that says;
+-- no other register is stored
 unfoldable pub put_value : CsrValues → Csr → ℕ → CsrValues
 put_value v Mstatus w = record v { mstatus = stored_mstatus w }
-put_value v Misa w = v
-put_value v Mie w = record v { mie = kept_mie w }
-put_value v Mtvec w = record v { mtvec = kept_mtvec w }
-put_value v Mcountinhibit w = record v { mcountinhibit = kept_mcountinhibit w }
-put_value v Mscratch w = record v { mscratch = w }
-put_value v Mepc w = record v { mepc = kept_mepc w }
-put_value v Mcause w = record v { mcause = kept_mcause w }
-put_value v Mtval w = record v { mtval = w }
-put_value v Mip w = v
+put_value v Mie w = record v { mie = legal_of Mie w }
+put_value v Mtvec w = record v { mtvec = legal_of Mtvec w }
+put_value v Mcountinhibit w = record v { mcountinhibit = legal_of Mcountinhibit w }
+put_value v Mscratch w = record v { mscratch = legal_of Mscratch w }
+put_value v Mepc w = record v { mepc = legal_of Mepc w }
+put_value v Mcause w = record v { mcause = legal_of Mcause w }
+put_value v Mtval w = record v { mtval = legal_of Mtval w }
 put_value v (Pmpcfg k) w = record v { pmpcfg = slice_set v.pmpcfg k (stored_cfg (slice_index v.pmpcfg k) w) }
 put_value v (Pmpaddr k) w = if is_addr_locked (cfg_bytes v) k then v else record v { pmpaddr = slice_set v.pmpaddr k w }
-put_value v Cpuctrl w = record v { cpuctrl = kept_cpuctrl w }
-put_value v Secureseed w = v
+put_value v Cpuctrl w = record v { cpuctrl = legal_of Cpuctrl w }
 put_value v Mcycle w = record v { mcycle = with_low v.mcycle w }
 put_value v Mcycleh w = record v { mcycle = with_high v.mcycle w }
 put_value v Minstret w = record v { minstret = with_low v.minstret w }
 put_value v Minstreth w = record v { minstret = with_high v.minstret w }
-put_value v Marchid w = v
-put_value v Zero w = v
+put_value v _ w = v
 
 abbrev pub is_there : Option Csr → Bool
 is_there (Some c) = true
@@ -132,11 +128,11 @@ abbrev pub counted : ℕ → Bool → ℕ
 counted count stands = if stands then count else (count + 1) % 2 ^ 64
 
 abbrev pub mcycle_stands : ℕ → Option ℕ → Bool
-mcycle_stands inhibit wrote = writes_half 0xb00 0xb80 wrote || not (bit_and inhibit 1 == 0)
+mcycle_stands inhibit wrote = writes_half 0xb00 0xb80 wrote || not (bit_and inhibit cy_bit == 0)
 
 -- minstret counts the retired instructions, and not the one that writes it
 abbrev pub minstret_stands : ℕ → Bool → Option ℕ → Bool
-minstret_stands inhibit retired wrote = not retired || writes_half 0xb02 0xb82 wrote || not (bit_and inhibit 4 == 0)
+minstret_stands inhibit retired wrote = not retired || writes_half 0xb02 0xb82 wrote || not (bit_and inhibit ir_bit == 0)
 
 -- One cycle, before the write that is made in it: whether an instruction retires, and the address that it
 -- writes.
@@ -148,7 +144,7 @@ csr_tick v retired wrote = record v {
 
 -- n cycles without a retirement and a write
 unfoldable pub counters_after : CsrValues → ℕ → CsrValues
-counters_after v n = record v { mcycle = if bit_and v.mcountinhibit 1 == 0 then (v.mcycle + n) % 2 ^ 64 else v.mcycle }
+counters_after v n = record v { mcycle = if bit_and v.mcountinhibit cy_bit == 0 then (v.mcycle + n) % 2 ^ 64 else v.mcycle }
 
 -- the registers that a trap reads
 abbrev pub trap_regs : CsrValues → TrapRegs
@@ -161,9 +157,9 @@ kept_regs r = record {
   mstatus = kept_mstatus r.mstatus;
   mtvec = kept_mtvec r.mtvec;
   mepc = kept_mepc r.mepc;
-  mcause = kept_mcause r.mcause;
+  mcause = legal_of Mcause r.mcause;
   mtval = r.mtval;
-  cpuctrl = kept_cpuctrl r.cpuctrl;
+  cpuctrl = legal_of Cpuctrl r.cpuctrl;
 }
 
 -- what a trap leaves

@@ -1,14 +1,15 @@
-ghost use Rattle.std.specs.Prelude.{◌≡◌, ◌↔◌, slice_index, false};
+ghost use Rattle.std.specs.Prelude.{◌≡◌, ℕ, ◌+◌, ◌^◌, ◌<◌, ◌↔◌, None, is_some, slice_index, false};
+ghost use Rattle.ibx_csr.specs.Bits.{at_reset as reset_value};
 ghost use Rattle.ibx_csr.specs.Kept.{is_addr_locked};
-ghost use Rattle.ibx_csr.specs.Values.{csr_reset, value_of, csr_read, csr_can_write, csr_write, OthersStay, csr_tick, counted as count_after, cfg_bytes, trap_regs, kept_regs, with_trap_regs};
-ghost use Rattle.ibx_csr.specs.Fields.{values, Complemented, reset_of, put_of, write_of, tick_of, with_regs, glitch_of};
+ghost use Rattle.ibx_csr.specs.Values.{CsrValues, csr_reset, value_of, csr_read, csr_can_write, csr_write, OthersStay, csr_tick, counters_after, counted as count_after, cfg_bytes, trap_regs, kept_regs, with_trap_regs};
+ghost use Rattle.ibx_csr.specs.Fields.{values, Complemented, reset_of, put_of, write_of, tick_of, passed, with_regs, glitch_of};
+ghost use Rattle.ibx_csr.specs.Modes.{access_machine, may_wait};
 
-use crate::kept::{
-    CPUCTRL, MCAUSE, MCOUNTINHIBIT, MEPC, MIE, MSTATUS, cfg_byte, kept_mtvec, stored_cfg,
-    stored_mstatus, with_high, with_low,
-};
+use crate::kept::{stored_cfg, stored_mstatus, with_high, with_low};
 use crate::name::{Csr, csr_at};
+use ibx_bits::byte_at;
 use ibx_isa::TrapRegs;
+use ibx_isa::control::{CY, IR, MPP, MPRV, TW};
 
 /// The registers, with the complements of those that protect the core. Each value of each field has a
 /// meaning, also where a complement isn't one.
@@ -91,70 +92,81 @@ impl Csrs {
         ensures values { values result ≡ csr_reset entry }
         ensures sound { Complemented result }
     {
-        let mtvec = kept_mtvec(entry);
+        let mstatus = at_reset(Csr::Mstatus);
+        let mtvec = Csr::Mtvec.bits().legal(entry);
+        let cpuctrl = at_reset(Csr::Cpuctrl);
+        let cfg = at_reset(Csr::Pmpcfg(0));
+        let addr = at_reset(Csr::Pmpaddr(0));
         Csrs {
             priv_: true,
-            mstatus: 0x80,
-            mie: 0,
+            mstatus,
+            mie: at_reset(Csr::Mie),
             mtvec,
-            mscratch: 0,
-            mepc: 0,
-            mcause: 0,
-            mtval: 0,
-            cpuctrl: 0,
-            mcountinhibit: 0,
+            mscratch: at_reset(Csr::Mscratch),
+            mepc: at_reset(Csr::Mepc),
+            mcause: at_reset(Csr::Mcause),
+            mtval: at_reset(Csr::Mtval),
+            cpuctrl,
+            mcountinhibit: at_reset(Csr::Mcountinhibit),
             mcycle: 0,
             minstret: 0,
-            pmpcfg0: 0,
-            pmpcfg1: 0,
-            pmpcfg2: 0,
-            pmpcfg3: 0,
-            pmpaddr0: 0,
-            pmpaddr1: 0,
-            pmpaddr2: 0,
-            pmpaddr3: 0,
-            pmpaddr4: 0,
-            pmpaddr5: 0,
-            pmpaddr6: 0,
-            pmpaddr7: 0,
-            pmpaddr8: 0,
-            pmpaddr9: 0,
-            pmpaddr10: 0,
-            pmpaddr11: 0,
-            pmpaddr12: 0,
-            pmpaddr13: 0,
-            pmpaddr14: 0,
-            pmpaddr15: 0,
-            mstatus_n: !0x80,
+            pmpcfg0: cfg,
+            pmpcfg1: cfg,
+            pmpcfg2: cfg,
+            pmpcfg3: cfg,
+            pmpaddr0: addr,
+            pmpaddr1: addr,
+            pmpaddr2: addr,
+            pmpaddr3: addr,
+            pmpaddr4: addr,
+            pmpaddr5: addr,
+            pmpaddr6: addr,
+            pmpaddr7: addr,
+            pmpaddr8: addr,
+            pmpaddr9: addr,
+            pmpaddr10: addr,
+            pmpaddr11: addr,
+            pmpaddr12: addr,
+            pmpaddr13: addr,
+            pmpaddr14: addr,
+            pmpaddr15: addr,
+            mstatus_n: !mstatus,
             mtvec_n: !mtvec,
-            cpuctrl_n: !0,
-            pmpcfg0_n: !0,
-            pmpcfg1_n: !0,
-            pmpcfg2_n: !0,
-            pmpcfg3_n: !0,
-            pmpaddr0_n: !0,
-            pmpaddr1_n: !0,
-            pmpaddr2_n: !0,
-            pmpaddr3_n: !0,
-            pmpaddr4_n: !0,
-            pmpaddr5_n: !0,
-            pmpaddr6_n: !0,
-            pmpaddr7_n: !0,
-            pmpaddr8_n: !0,
-            pmpaddr9_n: !0,
-            pmpaddr10_n: !0,
-            pmpaddr11_n: !0,
-            pmpaddr12_n: !0,
-            pmpaddr13_n: !0,
-            pmpaddr14_n: !0,
-            pmpaddr15_n: !0,
+            cpuctrl_n: !cpuctrl,
+            pmpcfg0_n: !cfg,
+            pmpcfg1_n: !cfg,
+            pmpcfg2_n: !cfg,
+            pmpcfg3_n: !cfg,
+            pmpaddr0_n: !addr,
+            pmpaddr1_n: !addr,
+            pmpaddr2_n: !addr,
+            pmpaddr3_n: !addr,
+            pmpaddr4_n: !addr,
+            pmpaddr5_n: !addr,
+            pmpaddr6_n: !addr,
+            pmpaddr7_n: !addr,
+            pmpaddr8_n: !addr,
+            pmpaddr9_n: !addr,
+            pmpaddr10_n: !addr,
+            pmpaddr11_n: !addr,
+            pmpaddr12_n: !addr,
+            pmpaddr13_n: !addr,
+            pmpaddr14_n: !addr,
+            pmpaddr15_n: !addr,
         }
     }
 
     /// The value at an address, where the table has a register there and the mode is M. `lines` are the
     /// interrupt lines of the cycle, which `mip` reads (Privileged ISA 1.12, chapter 2).
-    #[tactic(auto, unfolding(crate::specs::Values::csr_read, crate::specs::Fields::values))]
     pub fn read(&self, addr: u16, lines: u32) -> Option<u32>
+        ensures value { result ≡ csr_read (values self.now) addr lines }
+        ensures known { (v : CsrValues) (other : ℕ) → v.machine ≡ self.now.priv_ → is_some (csr_read v addr other) ≡ is_some result }
+    {
+        self.read_at(addr, lines)
+    }
+
+    #[tactic(auto, unfolding(crate::specs::Values::csr_read, crate::specs::Fields::values))]
+    fn read_at(&self, addr: u16, lines: u32) -> Option<u32>
         ensures { result ≡ csr_read (values self.now) addr lines }
     {
         match csr_at(addr) {
@@ -169,7 +181,6 @@ impl Csrs {
     {
         match register {
             Csr::Mstatus => self.mstatus,
-            Csr::Misa => 0x4010_1104,
             Csr::Mie => self.mie,
             Csr::Mtvec => self.mtvec,
             Csr::Mcountinhibit => self.mcountinhibit,
@@ -181,13 +192,11 @@ impl Csrs {
             Csr::Pmpcfg(index) => self.cfg(index),
             Csr::Pmpaddr(index) => self.addr(index),
             Csr::Cpuctrl => self.cpuctrl,
-            Csr::Secureseed => 0,
             Csr::Mcycle => (self.mcycle & 0xffff_ffff) as u32,
             Csr::Mcycleh => (self.mcycle >> 32) as u32,
             Csr::Minstret => (self.minstret & 0xffff_ffff) as u32,
             Csr::Minstreth => (self.minstret >> 32) as u32,
-            Csr::Marchid => 0x16,
-            Csr::Zero => 0,
+            Csr::Misa | Csr::Secureseed | Csr::Marchid | Csr::Zero => at_reset(register),
         }
     }
 
@@ -227,26 +236,26 @@ impl Csrs {
     fn put(&mut self, register: Csr, value: u32)
         ensures { self.new ≡ put_of self.old register value }
     {
+        let legal = register.bits().legal(value);
         match register {
             Csr::Mstatus => {
-                let kept = stored_mstatus(value);
-                self.mstatus = kept;
-                self.mstatus_n = !kept;
+                let stored = stored_mstatus(value);
+                self.mstatus = stored;
+                self.mstatus_n = !stored;
             }
-            Csr::Mie => self.mie = value & MIE,
+            Csr::Mie => self.mie = legal,
             Csr::Mtvec => {
-                let kept = kept_mtvec(value);
-                self.mtvec = kept;
-                self.mtvec_n = !kept;
+                self.mtvec = legal;
+                self.mtvec_n = !legal;
             }
-            Csr::Mcountinhibit => self.mcountinhibit = value & MCOUNTINHIBIT,
-            Csr::Mscratch => self.mscratch = value,
-            Csr::Mepc => self.mepc = value & MEPC,
-            Csr::Mcause => self.mcause = value & MCAUSE,
-            Csr::Mtval => self.mtval = value,
+            Csr::Mcountinhibit => self.mcountinhibit = legal,
+            Csr::Mscratch => self.mscratch = legal,
+            Csr::Mepc => self.mepc = legal,
+            Csr::Mcause => self.mcause = legal,
+            Csr::Mtval => self.mtval = legal,
             Csr::Pmpcfg(index) => {
-                let kept = stored_cfg(self.cfg(index), value);
-                self.put_cfg(index, kept);
+                let stored = stored_cfg(self.cfg(index), value);
+                self.put_cfg(index, stored);
             }
             Csr::Pmpaddr(index) => {
                 if !self.is_addr_locked(index) {
@@ -254,9 +263,8 @@ impl Csrs {
                 }
             }
             Csr::Cpuctrl => {
-                let kept = value & CPUCTRL;
-                self.cpuctrl = kept;
-                self.cpuctrl_n = !kept;
+                self.cpuctrl = legal;
+                self.cpuctrl_n = !legal;
             }
             Csr::Mcycle => self.mcycle = with_low(self.mcycle, value),
             Csr::Mcycleh => self.mcycle = with_high(self.mcycle, value),
@@ -271,8 +279,8 @@ impl Csrs {
         ensures { result ≡ is_addr_locked (cfg_bytes (values self.now)) index }
     {
         let view = self.pmp();
-        let own = byte_at(&view.cfg, index as usize);
-        let next = byte_at(&view.cfg, index as usize + 1);
+        let own = entry_at(&view.cfg, index as usize);
+        let next = entry_at(&view.cfg, index as usize + 1);
         own & 0x80 != 0 || next & 0x98 == 0x88
     }
 
@@ -289,10 +297,43 @@ impl Csrs {
     {
         let writes_cycle = matches!(wrote, Some(0xb00 | 0xb80));
         let writes_instret = matches!(wrote, Some(0xb02 | 0xb82));
-        let cycle_stands = writes_cycle || self.mcountinhibit & 1 != 0;
-        let instret_stands = !retired || writes_instret || self.mcountinhibit & 4 != 0;
+        let cycle_stands = writes_cycle || self.mcountinhibit & CY != 0;
+        let instret_stands = !retired || writes_instret || self.mcountinhibit & IR != 0;
         self.mcycle = counted(self.mcycle, cycle_stands);
         self.minstret = counted(self.minstret, instret_stands);
+    }
+
+    /// Moves `mcycle` by so many cycles, in which no instruction retires and no counter is written.
+    ///
+    /// Bit 0 of `mcountinhibit` stops it (Privileged ISA 1.12, 3.1.10 and 3.1.12).
+    #[tactic(auto, unfolding(crate::specs::Fields::passed, crate::specs::Fields::values, crate::specs::Values::counters_after))]
+    pub fn pass(&mut self, cycles: u64)
+        ensures fields { self.new ≡ passed self.old cycles }
+        ensures values { values self.new ≡ counters_after (values self.old) cycles }
+        ensures nothing { (v : CsrValues) → v.mcycle < 2 ^ 64 → counters_after v 0 ≡ v }
+        ensures ticks { (v : CsrValues) (n : ℕ) → csr_tick (counters_after v n) false None ≡ counters_after v (n + 1) }
+        ensures sound { Complemented self.old → Complemented self.new }
+    {
+        if self.mcountinhibit & CY == 0 {
+            self.mcycle = self.mcycle.wrapping_add(cycles);
+        }
+    }
+
+    /// Whether loads and stores are M's: in M mode, except where MPRV is 1 and MPP isn't M
+    /// (Privileged ISA 1.12, 3.1.6.3).
+    #[tactic(auto, unfolding(crate::specs::Fields::values))]
+    pub fn access_machine(&self) -> bool
+        ensures { result ≡ access_machine (values self.now) }
+    {
+        self.priv_ && (self.mstatus & MPRV == 0 || self.mstatus & MPP == MPP)
+    }
+
+    /// Whether a WFI isn't illegal: in M mode, and in U mode where TW is 0 (Privileged ISA 1.12, 3.1.6.5).
+    #[tactic(auto, unfolding(crate::specs::Fields::values))]
+    pub fn may_wait(&self) -> bool
+        ensures { result ≡ may_wait (values self.now) }
+    {
+        self.priv_ || self.mstatus & TW == 0
     }
 
     /// Whether a complemented copy isn't the complement of its register (our own check).
@@ -327,16 +368,16 @@ impl Csrs {
         ensures back { trap_regs (values self.new) ≡ kept_regs r.now }
         ensures sound { Complemented self.old → Complemented self.new }
     {
-        let mstatus = r.mstatus & MSTATUS;
-        let mtvec = kept_mtvec(r.mtvec);
-        let cpuctrl = r.cpuctrl & CPUCTRL;
+        let mstatus = Csr::Mstatus.bits().legal(r.mstatus);
+        let mtvec = Csr::Mtvec.bits().legal(r.mtvec);
+        let cpuctrl = Csr::Cpuctrl.bits().legal(r.cpuctrl);
         self.priv_ = r.machine;
         self.mstatus = mstatus;
         self.mstatus_n = !mstatus;
         self.mtvec = mtvec;
         self.mtvec_n = !mtvec;
-        self.mepc = r.mepc & MEPC;
-        self.mcause = r.mcause & MCAUSE;
+        self.mepc = Csr::Mepc.bits().legal(r.mepc);
+        self.mcause = Csr::Mcause.bits().legal(r.mcause);
         self.mtval = r.mtval;
         self.cpuctrl = cpuctrl;
         self.cpuctrl_n = !cpuctrl;
@@ -350,22 +391,22 @@ impl Csrs {
     {
         PmpView {
             cfg: [
-                cfg_byte(self.pmpcfg0, 0),
-                cfg_byte(self.pmpcfg0, 1),
-                cfg_byte(self.pmpcfg0, 2),
-                cfg_byte(self.pmpcfg0, 3),
-                cfg_byte(self.pmpcfg1, 0),
-                cfg_byte(self.pmpcfg1, 1),
-                cfg_byte(self.pmpcfg1, 2),
-                cfg_byte(self.pmpcfg1, 3),
-                cfg_byte(self.pmpcfg2, 0),
-                cfg_byte(self.pmpcfg2, 1),
-                cfg_byte(self.pmpcfg2, 2),
-                cfg_byte(self.pmpcfg2, 3),
-                cfg_byte(self.pmpcfg3, 0),
-                cfg_byte(self.pmpcfg3, 1),
-                cfg_byte(self.pmpcfg3, 2),
-                cfg_byte(self.pmpcfg3, 3),
+                byte_at(self.pmpcfg0, 0),
+                byte_at(self.pmpcfg0, 1),
+                byte_at(self.pmpcfg0, 2),
+                byte_at(self.pmpcfg0, 3),
+                byte_at(self.pmpcfg1, 0),
+                byte_at(self.pmpcfg1, 1),
+                byte_at(self.pmpcfg1, 2),
+                byte_at(self.pmpcfg1, 3),
+                byte_at(self.pmpcfg2, 0),
+                byte_at(self.pmpcfg2, 1),
+                byte_at(self.pmpcfg2, 2),
+                byte_at(self.pmpcfg2, 3),
+                byte_at(self.pmpcfg3, 0),
+                byte_at(self.pmpcfg3, 1),
+                byte_at(self.pmpcfg3, 2),
+                byte_at(self.pmpcfg3, 3),
             ],
             addr: [
                 self.pmpaddr0,
@@ -389,6 +430,13 @@ impl Csrs {
     }
 }
 
+// What a register holds at reset.
+fn at_reset(register: Csr) -> u32
+    ensures { result ≡ reset_value register }
+{
+    register.bits().value
+}
+
 // A count after a cycle in which it stands still or counts.
 fn counted(count: u64, stands: bool) -> u64
     ensures { result ≡ count_after count stands }
@@ -397,7 +445,7 @@ fn counted(count: u64, stands: bool) -> u64
 }
 
 // Byte `index`, or 0 past the end.
-fn byte_at(bytes: &[u8], index: usize) -> u8
+fn entry_at(bytes: &[u8], index: usize) -> u8
     ensures { result ≡ slice_index bytes.now index }
 {
     match bytes.get(index) {

@@ -4,7 +4,7 @@ use Rattle.std.specs.Prelude.{◌&&◌, bit_and}
 use Rattle.std.specs.Int.Bits.{and_mask, and_block, and_zero_r, and_le_r}
 use Rattle.std.proofs.lemmas.Nat.{shr_split}
 use Rattle.std.proofs.lemmas.Bool.{eqb-true, eq-eqb, and_parts, and_from}
-use Rattle.ibx_decoder.specs.Bits.{bits_at}
+use Rattle.ibx_bits.specs.Bytes.{bits_at}
 use Rattle.ibx_decoder.specs.Table.{Row, none_holds, fits, first_fit}
 use Rattle.ibx_decoder.specs.Compressed.{add, addi, and, andi, beq, bne, ebreak, jal, jalr, lui, lw, or, slli, srai, srli, sub, sw, xor, wide_rd, wide_rs2, high_reg, low_reg, imm_addi4spn, imm_lw, imm_lwsp, imm_swsp, imm_six, imm_lui, imm_addi16sp, imm_jump, imm_branch, rows, expand_of}
 use Rattle.ibx_decoder.proofs.SameTest.{same_test}

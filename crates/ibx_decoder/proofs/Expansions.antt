@@ -4,7 +4,7 @@ use Rattle.std.specs.Prelude.{bit_and, IfSome, IsSome, IsTrue, OnSome}
 use Rattle.std.proofs.lemmas.Bool.{cases_eq, ne_eqb}
 use Rattle.std.specs.Int.Bits.{and_mask}
 use Rattle.ibx_isa.specs.declared.insn.Insn.{Insn}
-use Rattle.ibx_decoder.specs.Bits.{bits_at}
+use Rattle.ibx_bits.specs.Bytes.{bits_at}
 use Rattle.ibx_decoder.specs.Table.{IsRow}
 use Rattle.ibx_decoder.specs.Rows as Words
 use Rattle.ibx_decoder.specs.Rows.{decode_of, IsInstruction}

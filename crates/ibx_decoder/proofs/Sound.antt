@@ -1,12 +1,12 @@
 -- What holds of a word that fits a row of 32-bit instructions.
-use Rattle.std.proofs.Common.{◌≡◌, ℕ, ◌+◌, ◌*◌, ◌/◌, ◌%◌, ◌^◌, ◌<◌, Bool, true, eqb, List, [], ◌∷◌, refl, sym, ap, ◌∙◌, arith, inl, inr}
-use Rattle.std.specs.Prelude.{◌&&◌, bit_and, IfSome, OnSome}
+use Rattle.std.proofs.Common.{◌≡◌, ℕ, ◌+◌, ◌*◌, ◌/◌, ◌%◌, ◌^◌, ◌<◌, Bool, true, eqb, List, [], ◌∷◌, refl, sym, ap, ◌∙◌, arith, inl, inr, ◌-◌, cond, false}
+use Rattle.std.specs.Prelude.{◌&&◌, bit_and, IfSome, OnSome, nat_lt}
 use Rattle.std.specs.Int.Bits.{and_mask}
 use Rattle.std.proofs.lemmas.Nat.{and_assoc}
 use Rattle.std.proofs.lemmas.Bool.{eqb-true, and_parts}
 use Rattle.ibx_isa.specs.declared.insn.Insn.{Insn}
 use Rattle.ibx_isa.specs.WellFormed.{IsWellFormed}
-use Rattle.ibx_decoder.specs.Bits.{bits_at, extended}
+use Rattle.ibx_bits.specs.Bytes.{bits_at, sign_extended}
 use Rattle.ibx_decoder.specs.Table.{Row, none_holds, fits, IsRow}
 use Rattle.ibx_decoder.specs.Rows.{rd, rs1, rs2, shamt, csr, imm_i, imm_s, imm_b, imm_u, imm_j, rows, decode_of}
 use Rattle.ibx_decoder.proofs.OneRow.{AllGive, given, one_row, all_apart, apart, apart_pair, excepted}
@@ -47,14 +47,28 @@ decode_of-long w = given w (λ _. w % 4 ≡ 3) rows (low_bits_of_rows w rows ref
 
 -- ---- the fields are in their ranges
 
-extended-word : (n : ℕ) → n < 2 ^ 12 → extended 12 n < 2 ^ 32
+extended-word : (n : ℕ) → n < 2 ^ 12 → sign_extended 12 n < 2 ^ 32
 extended-word n h = grind arith
 
-extended_branch-word : (n : ℕ) → n < 2 ^ 13 → extended 13 n < 2 ^ 32
+extended_branch-word : (n : ℕ) → n < 2 ^ 13 → sign_extended 13 n < 2 ^ 32
 extended_branch-word n h = grind arith
 
-extended_jump-word : (n : ℕ) → n < 2 ^ 21 → extended 21 n < 2 ^ 32
+extended_jump-word : (n : ℕ) → n < 2 ^ 21 → sign_extended 21 n < 2 ^ 32
 extended_jump-word n h = grind arith
+
+extended_even : (n more : ℕ) (b : Bool) → n % 2 ≡ 0 → more % 2 ≡ 0 → cond b n (n + more) % 2 ≡ 0
+extended_even n more true e k = e
+extended_even n more false e k = omega (arith, e, k)
+
+branch_even : (w : ℕ) → imm_b w % 2 ≡ 0
+branch_even w =
+    let n : ℕ = w / 2 ^ 31 * 2 ^ 12 + bits_at w 7 1 * 2 ^ 11 + bits_at w 25 6 * 2 ^ 5 + bits_at w 8 4 * 2 in
+    extended_even n (2 ^ 32 - 2 ^ 13) (nat_lt n (2 ^ 12)) (omega arith) refl
+
+jump_even : (w : ℕ) → imm_j w % 2 ≡ 0
+jump_even w =
+    let n : ℕ = w / 2 ^ 31 * 2 ^ 20 + bits_at w 12 8 * 2 ^ 12 + bits_at w 20 1 * 2 ^ 11 + bits_at w 21 10 * 2 in
+    extended_even n (2 ^ 32 - 2 ^ 21) (nat_lt n (2 ^ 20)) (omega arith) refl
 
 well_formed_rows : (w : ℕ) → w < 2 ^ 32 → AllGive w IsWellFormed rows
 well_formed_rows w h =
@@ -69,26 +83,28 @@ well_formed_rows w h =
     extended_branch-word (w / 2 ^ 31 * 2 ^ 12 + bits_at w 7 1 * 2 ^ 11 + bits_at w 25 6 * 2 ^ 5 + bits_at w 8 4 * 2) (omega arith) in
     let u : imm_u w < 2 ^ 32 = omega arith in
     let j : imm_j w < 2 ^ 32 =
-    extended_jump-word (w / 2 ^ 31 * 2 ^ 20 + bits_at w 12 8 * 2 ^ 12 + bits_at w 20 1 * 2 ^ 11 + bits_at w 21 10 * 2) (omega arith) in (
+    extended_jump-word (w / 2 ^ 31 * 2 ^ 20 + bits_at w 12 8 * 2 ^ 12 + bits_at w 20 1 * 2 ^ 11 + bits_at w 21 10 * 2) (omega arith) in
+    let be : imm_b w % 2 ≡ 0 = branch_even w in
+    let je : imm_j w % 2 ≡ 0 = jump_even w in (
       λ _. (d, u),
       (
         λ _. (d, u),
         (
-          λ _. (d, j),
+          λ _. (d, j, je),
           (
             λ _. (d, a, i),
             (
-              λ _. (a, b, br),
+              λ _. (a, b, br, be),
               (
-                λ _. (a, b, br),
+                λ _. (a, b, br, be),
                 (
-                  λ _. (a, b, br),
+                  λ _. (a, b, br, be),
                   (
-                    λ _. (a, b, br),
+                    λ _. (a, b, br, be),
                     (
-                      λ _. (a, b, br),
+                      λ _. (a, b, br, be),
                       (
-                        λ _. (a, b, br),
+                        λ _. (a, b, br, be),
                         (
                           λ _. (d, a, i),
                           (

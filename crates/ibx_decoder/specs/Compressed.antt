@@ -1,8 +1,9 @@
 -- The compressed instructions of RV32C without floating point, and their expansions (Unprivileged ISA, 16).
 -- A halfword fits a row where its bits under the mask are the match, and no exception holds.
-use Rattle.std.specs.Prelude.{ℕ, ◌+◌, ◌-◌, ◌*◌, ◌/◌, ◌%◌, ◌^◌, ◌==◌, Bool, not, List, [], ◌∷◌, Option}
-use Rattle.ibx_decoder.specs.Bits.{bits_at}
+use Rattle.std.specs.Prelude.{ℕ, ◌+◌, ◌-◌, ◌*◌, ◌/◌, ◌%◌, ◌^◌, Bool, not, List, [], ◌∷◌, Option}
+use Rattle.ibx_bits.specs.Bytes.{bits_at}
 use Rattle.ibx_decoder.specs.Table.{Row, first_fit}
+use Rattle.ibx_isa.specs.Lengths.{is_long}
 
 -- ---- words of the forms I, S, B, U, J and R (2.2 and 2.3); a negative immediate is in two's complement
 
@@ -194,4 +195,4 @@ expand_of h = first_fit h rows
 
 -- the halfword begins no 32-bit instruction (1.5)
 abbrev pub is_short_of : ℕ → Bool
-is_short_of h = not (h % 4 == 3)
+is_short_of h = not (is_long h)

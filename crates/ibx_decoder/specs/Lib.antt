@@ -1,4 +1,4 @@
-pub mod Bits
 pub mod Compressed
+pub mod Instructions
 pub mod Rows
 pub mod Table

@@ -8,7 +8,7 @@ use Rattle.ibx_isa.specs.declared.insn.LoadOp.TheVariants.{Lb, Lh, Lw, Lbu, Lhu}
 use Rattle.ibx_isa.specs.declared.insn.AluOp.TheVariants.{Add, Sub, Sll, Slt, Sltu, Xor, Srl, Sra, Or, And}
 use Rattle.ibx_isa.specs.declared.insn.MdOp.TheVariants.{Mul, Mulh, Mulhsu, Mulhu, Div, Divu, Rem, Remu}
 use Rattle.ibx_isa.specs.declared.insn.CsrOp.TheVariants.{Write, Set, Clear}
-use Rattle.ibx_decoder.specs.Bits.{bits_at, extended}
+use Rattle.ibx_bits.specs.Bytes.{bits_at, sign_extended}
 use Rattle.ibx_decoder.specs.Table.{Row, first_fit}
 
 -- ---- fields (Unprivileged ISA, 2.2 and 2.3)
@@ -25,19 +25,19 @@ rs2 w = bits_at w 20 5
 
 -- the immediates of the forms I, S, B, U and J
 abbrev pub imm_i : ℕ → ℕ
-imm_i w = extended 12 (w / 2 ^ 20)
+imm_i w = sign_extended 12 (w / 2 ^ 20)
 
 abbrev pub imm_s : ℕ → ℕ
-imm_s w = extended 12 (w / 2 ^ 25 * 2 ^ 5 + bits_at w 7 5)
+imm_s w = sign_extended 12 (w / 2 ^ 25 * 2 ^ 5 + bits_at w 7 5)
 
 abbrev pub imm_b : ℕ → ℕ
-imm_b w = extended 13 (w / 2 ^ 31 * 2 ^ 12 + bits_at w 7 1 * 2 ^ 11 + bits_at w 25 6 * 2 ^ 5 + bits_at w 8 4 * 2)
+imm_b w = sign_extended 13 (w / 2 ^ 31 * 2 ^ 12 + bits_at w 7 1 * 2 ^ 11 + bits_at w 25 6 * 2 ^ 5 + bits_at w 8 4 * 2)
 
 abbrev pub imm_u : ℕ → ℕ
 imm_u w = w / 2 ^ 12 * 2 ^ 12
 
 abbrev pub imm_j : ℕ → ℕ
-imm_j w = extended 21 (w / 2 ^ 31 * 2 ^ 20 + bits_at w 12 8 * 2 ^ 12 + bits_at w 20 1 * 2 ^ 11 + bits_at w 21 10 * 2)
+imm_j w = sign_extended 21 (w / 2 ^ 31 * 2 ^ 20 + bits_at w 12 8 * 2 ^ 12 + bits_at w 20 1 * 2 ^ 11 + bits_at w 21 10 * 2)
 
 -- the amount of a shift by an immediate, and the address of a CSR
 abbrev pub shamt : ℕ → ℕ

@@ -1,5 +1,5 @@
 ghost use Rattle.std.specs.Prelude.{◌≡◌, ◌/◌, ◌^◌, ◌<◌, ◌≤◌, ◌-◌};
-ghost use Rattle.ibx_decoder.specs.Bits.{bits_at, extended};
+ghost use Rattle.ibx_bits.specs.Bytes.{bits_at, sign_extended};
 ghost use Rattle.ibx_decoder.specs.Rows.{imm_i, imm_s, imm_b, imm_u, imm_j};
 
 /// `count` bits of a word from bit `low` on.
@@ -27,7 +27,7 @@ fn extend(count: u32, value: u32) -> u32
     requires least { 1 ≤ count }
     requires most { count < 32 }
     requires fits { value < 2 ^ count }
-    ensures { result ≡ extended count value }
+    ensures { result ≡ sign_extended count value }
 {
     if value < 1 << (count - 1) {
         value

@@ -11,13 +11,14 @@ use crate::half_fields::{
     immediate_lui, immediate_lw, immediate_lwsp, immediate_six, immediate_swsp, low_reg, wide_rd,
     wide_rs2,
 };
+use ibx_isa::is_long;
 
 /// Whether a halfword is a whole instruction, and not the first half of a 32-bit one: its bits 1:0 aren't both 1
 /// (RISC-V Unprivileged ISA, 1.5).
 pub fn is_short(half: u16) -> bool
     ensures { result ≡ is_short_of half }
 {
-    half & 3 != 3
+    !is_long(half as u32)
 }
 
 /// The 32-bit word of a compressed instruction (Unprivileged ISA, 16). None where the halfword is no instruction of

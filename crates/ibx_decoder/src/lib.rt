@@ -6,9 +6,11 @@ mod assemble;
 mod fields;
 mod half_fields;
 mod halves;
+mod instructions;
 #[cfg(test)]
 mod tests;
 mod words;
 
 pub use halves::{expand, is_short};
+pub use instructions::instruction;
 pub use words::decode;

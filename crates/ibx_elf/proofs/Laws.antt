@@ -6,7 +6,7 @@ use Rattle.ibx_elf.specs.declared.ram.Ram.{Ram}
 use Rattle.ibx_elf.specs.declared.fault.ElfFault.TheVariants.{Short, Headers, TooMany}
 use Rattle.ibx_elf.specs.Faults.{IsWellFormed, file_header_fault, file_header_faults, first_fault, first_overlap, overlap_fault, outside_fault, segment_fault, entry_fault, is_bad_entry, shares_address, overruns, is_short, lacks_headers, has_too_many}
 use Rattle.ibx_elf.specs.Fields.{HasHeaders, e_entry, e_phentsize, e_phnum, e_phoff, program_header, is_load}
-use Rattle.ibx_elf.specs.Image.{loaded_byte, segment_of, segments_below, HoldsSegments, IsReadable, IsZeroElsewhere, places, placed_by, placed_byte, byte_of, image_of}
+use Rattle.ibx_elf.specs.Image.{loaded_byte, segment_of, segments_below, HoldsSegments, IsReadable, IsZeroElsewhere, places, placed_by, placed_byte, image_byte, image_of}
 use Rattle.ibx_elf.specs.Ram.{IsInRam}
 use Rattle.ibx_elf.specs.Search.{first_below, first_of, only_if}
 use Rattle.std.specs.Option.{option_or}
@@ -33,7 +33,7 @@ no_fault file ram well =
     record { header = a.0; segments = b.0; outside = d.0; overlaps = e.0; entry = f.0 }
 
 -- a test that gives no answer doesn't hold
-only_if-none : {A : Type 0} (test : Bool) (x : A) → only_if test x ≡ None → test ≡ false
+pub only_if-none : {A : Type 0} (test : Bool) (x : A) → only_if test x ≡ None → test ≡ false
 only_if-none true x none = absurd (cc)
 only_if-none false x none = refl
 
@@ -90,12 +90,12 @@ shared : (a b : ProgramHeader) (addr : ℕ) → places a addr ≡ true → place
 shared a b addr in_a in_b = grind (arith, nat_tests)
 
 -- a test holds or not
-true_or_false : (test : Bool) → (test ≡ true) ⊎ (test ≡ false)
+pub true_or_false : (test : Bool) → (test ≡ true) ⊎ (test ≡ false)
 true_or_false true = inl refl
 true_or_false false = inr refl
 
 -- of a well-formed file no other header has a byte for an address
-others_have_none : (file : List ℕ) (i j addr : ℕ) → first_below (first_overlap file) (e_phnum file) ≡ None
+pub others_have_none : (file : List ℕ) (i j addr : ℕ) → first_below (first_overlap file) (e_phnum file) ≡ None
     → i < e_phnum file → j < i → places (program_header file i) addr ≡ true → places (program_header file j) addr ≡ true → ⊥
 unfolding first_overlap overlap_fault
 others_have_none file i j addr none less before at_i at_j =
@@ -106,7 +106,7 @@ others_have_none file i j addr none less before at_i at_j =
     grind (arith, nat_tests)
 
 -- a header without a byte for an address places none
-not_placed : (file : List ℕ) (addr j : ℕ) → places (program_header file j) addr ≡ false → placed_by file addr j ≡ None
+pub not_placed : (file : List ℕ) (addr j : ℕ) → places (program_header file j) addr ≡ false → placed_by file addr j ≡ None
 unfolding placed_by
 not_placed file addr j has_none = rw has_none refl
 
@@ -158,8 +158,8 @@ placed_among file addr (suc n) none =
     let here = map (loaded_byte addr) (segment_of file header) in
     first_of-append have here ∙ ap (λ o. option_or o (first_of here)) before ∙ ap (option_or (first_below (placed_by file addr) n)) last)
 
-pub byte_of-image_of : (file : List ℕ) (ram : Ram) (addr : ℕ) → IsReadable file → byte_of (image_of file ram) addr ≡ placed_byte file addr
-unfolding byte_of placed_byte
+pub byte_of-image_of : (file : List ℕ) (ram : Ram) (addr : ℕ) → IsReadable file → image_byte (image_of file ram) addr ≡ placed_byte file addr
+unfolding image_byte placed_byte
 byte_of-image_of file ram addr read =
     ap (λ o. unwrap_or o 0)
     (placed_among file addr (e_phnum file) (λ i less. first_below-empty (segment_fault file) (e_phnum file) i read.segments less))

@@ -2,4 +2,5 @@ pub mod Reading
 pub mod Searching
 pub mod Overlaps
 pub mod Laws
-pub mod FourBytes
+pub mod Puts
+pub mod Rams

@@ -1,11 +1,11 @@
 -- When a file is refused, and why.
-use Rattle.std.specs.Prelude.{◌≡◌, ℕ, ◌+◌, ◌*◌, ◌%◌, Bool, not, ◌&&◌, ◌||◌, ◌==◌, nat_eq, nat_lt, List, [], ◌∷◌, length, max, min, Option, None, Some, Result, MatchResult}
+use Rattle.std.specs.Prelude.{◌≡◌, ℕ, ◌+◌, ◌*◌, ◌%◌, Bool, true, not, ◌&&◌, ◌||◌, ◌==◌, nat_eq, nat_le, nat_lt, ◌<◌, if◌then◌else◌, List, [], ◌∷◌, length, max, min, Option, None, Some, Result, MatchResult}
 use Rattle.std.specs.List.{starts_with}
 use Rattle.ibx_elf.specs.declared.fault.ElfFault.{ElfFault}
 use Rattle.ibx_elf.specs.declared.fault.ElfFault.TheVariants.{Short, Magic, Class, Order, Version, Kind, Machine, Headers, TooMany, Segment, OutsideRam, Overlap, Entry}
 use Rattle.ibx_elf.specs.declared.fields.ProgramHeader.{ProgramHeader}
 use Rattle.ibx_elf.specs.declared.ram.Ram.{Ram}
-use Rattle.ibx_elf.specs.Fields.{ei_class, ei_data, ei_version, e_type, e_machine, e_version, e_entry, e_phoff, e_phentsize, e_phnum, program_header, is_load}
+use Rattle.ibx_elf.specs.Fields.{ei_class, ei_data, ei_version, e_type, e_machine, e_version, e_entry, e_phoff, e_phentsize, e_phnum, program_header, has_file_bytes, is_load}
 use Rattle.ibx_elf.specs.Ram.{ram_has, ram_has_all}
 use Rattle.ibx_elf.specs.Search.{first_below, first_of, only_if}
 
@@ -66,6 +66,20 @@ abbrev pub shares_address : ProgramHeader → ProgramHeader → Bool
 shares_address a b =
     is_load a && is_load b
     && nat_lt (max a.p_paddr b.p_paddr) (min (a.p_paddr + a.p_filesz) (b.p_paddr + b.p_filesz))
+
+-- one segment's file bytes all lie before another's, where both have some
+abbrev pub precedes : ProgramHeader → ProgramHeader → Bool
+precedes a b = not (has_file_bytes a && has_file_bytes b) || nat_le (a.p_paddr + a.p_filesz) b.p_paddr
+
+-- the file bytes of each segment lie after those of the segments before it
+abbrev pub AreAscending : List ℕ → Type 0
+AreAscending file = (i j : ℕ) → i < j → j < e_phnum file → precedes (program_header file i) (program_header file j) ≡ true
+
+-- where the file bytes of a header and of those before it end, if the ones before it end at `end`; none where its
+-- own begin before that
+abbrev pub end_after : ProgramHeader → ℕ → Option ℕ
+end_after header end =
+    if has_file_bytes header then only_if (nat_le end header.p_paddr) (header.p_paddr + header.p_filesz) else Some end
 
 -- odd, or not in RAM
 abbrev pub is_bad_entry : Ram → ℕ → Bool

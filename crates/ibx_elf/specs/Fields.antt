@@ -1,5 +1,5 @@
 -- Where the fields of an ELF32 file stand (System V gABI, "ELF Header" and "Program Header").
-use Rattle.std.specs.Prelude.{ℕ, zero, suc, ◌+◌, ◌*◌, ◌<◌, ◌≤◌, Bool, ◌==◌, List, length, slice_index}
+use Rattle.std.specs.Prelude.{ℕ, zero, suc, ◌+◌, ◌*◌, ◌<◌, ◌≤◌, Bool, ◌&&◌, ◌==◌, nat_lt, List, length, slice_index}
 use Rattle.ibx_elf.specs.declared.fields.ProgramHeader.{ProgramHeader}
 
 -- the number in so many bytes of a file from an offset on, the lowest byte first (gABI, "Data Encoding",
@@ -57,6 +57,10 @@ program_header file i = header_at file (e_phoff file + 32 * i)
 -- PT_LOAD, a loadable segment; headers of another type are skipped
 abbrev pub is_load : ProgramHeader → Bool
 is_load header = header.p_type == 1
+
+-- a loadable segment with file bytes
+abbrev pub has_file_bytes : ProgramHeader → Bool
+has_file_bytes header = is_load header && nat_lt 0 header.p_filesz
 
 -- the file header and all program headers lie within the file
 pub record HasHeaders (file : List ℕ) : Type 0 where

@@ -1,5 +1,5 @@
 -- The memory that a well-formed file describes.
-use Rattle.std.specs.Prelude.{◌≡◌, ℕ, zero, suc, ◌+◌, ◌*◌, ◌-◌, ◌^◌, ◌<◌, Bool, true, false, ◌&&◌, nat_lt, nat_le, List, [], ◌∷◌, ◌++◌, length, take, drop, map, slice_index, if◌then◌else◌, Option, None, unwrap_or}
+use Rattle.std.specs.Prelude.{◌≡◌, ℕ, zero, suc, ◌+◌, ◌*◌, ◌-◌, ◌/◌, ◌%◌, ◌^◌, ◌<◌, Bool, true, false, ◌&&◌, nat_lt, nat_le, List, [], ◌∷◌, ◌++◌, length, take, drop, map, slice_index, if◌then◌else◌, Option, None, unwrap_or}
 use Rattle.ibx_elf.specs.declared.fields.ProgramHeader.{ProgramHeader}
 use Rattle.ibx_elf.specs.declared.ram.Ram.{Ram}
 use Rattle.ibx_elf.specs.Faults.{segment_fault}
@@ -24,14 +24,24 @@ loaded_byte addr segment =
     (slice_index segment.bytes (addr - segment.addr))
 
 -- the byte at an address: that of a segment which has one for it, and 0 where none has
-unfoldable pub byte_of : Placed → ℕ → ℕ
-byte_of image addr = unwrap_or (first_of (map (loaded_byte addr) image.segments)) 0
+unfoldable pub image_byte : Placed → ℕ → ℕ
+image_byte image addr = unwrap_or (first_of (map (loaded_byte addr) image.segments)) 0
 
 -- the four bytes from an address on as a number, the lowest byte first
-abbrev pub word_of : Placed → ℕ → ℕ
-word_of image addr =
-    byte_of image addr + 256 * byte_of image (addr + 1) + 256 ^ 2 * byte_of image (addr + 2)
-    + 256 ^ 3 * byte_of image (addr + 3)
+abbrev pub image_word : Placed → ℕ → ℕ
+image_word image addr =
+    image_byte image addr + 256 * image_byte image (addr + 1) + 256 ^ 2 * image_byte image (addr + 2)
+    + 256 ^ 3 * image_byte image (addr + 3)
+
+-- the words of RAM, the lowest first: word i has the four bytes from base + 4 i on
+abbrev pub HoldsWords : Placed → List ℕ → Type 0
+HoldsWords image words = (i : ℕ) → i < length words → slice_index words i ≡ image_word image (image.ram.base + 4 * i)
+
+-- the same byte by byte: byte k of word i is that at base + 4 i + k
+abbrev pub HoldsBytes : Placed → List ℕ → Type 0
+HoldsBytes image words =
+    (i : ℕ) → i < length words → (k : ℕ) → k < 4
+    → slice_index words i / 256 ^ k % 256 ≡ image_byte image (image.ram.base + 4 * i + k)
 
 -- what a header loads: its p_filesz file bytes from p_offset on, at p_paddr (gABI, "Program Header")
 abbrev pub segment_of : List ℕ → ProgramHeader → List LoadedBytes
@@ -68,12 +78,12 @@ placed_byte file addr = unwrap_or (first_below (placed_by file addr) (e_phnum fi
 abbrev pub HoldsSegments : List ℕ → Placed → Type 0
 HoldsSegments file image =
     (i k : ℕ) → i < e_phnum file → is_load (program_header file i) ≡ true → k < (program_header file i).p_filesz
-    → byte_of image ((program_header file i).p_paddr + k) ≡ slice_index file ((program_header file i).p_offset + k)
+    → image_byte image ((program_header file i).p_paddr + k) ≡ slice_index file ((program_header file i).p_offset + k)
 
 -- where no segment places a file byte there is 0
 abbrev pub IsZeroElsewhere : List ℕ → Placed → Type 0
 IsZeroElsewhere file image =
-    (addr : ℕ) → ((i : ℕ) → i < e_phnum file → places (program_header file i) addr ≡ false) → byte_of image addr ≡ 0
+    (addr : ℕ) → ((i : ℕ) → i < e_phnum file → places (program_header file i) addr ≡ false) → image_byte image addr ≡ 0
 
 -- the headers lie within the file, and the file bytes of each segment too
 pub record IsReadable (file : List ℕ) : Type 0 where

@@ -1,16 +1,23 @@
 -- The memory that a file is loaded into.
-use Rattle.std.specs.Prelude.{◌≡◌, ℕ, ◌+◌, ◌%◌, ◌^◌, ◌<◌, ◌≤◌, Bool, ◌&&◌, nat_lt, nat_le}
+use Rattle.std.specs.Prelude.{◌≡◌, ℕ, ◌+◌, ◌%◌, ◌^◌, ◌<◌, ◌≤◌, Bool, ◌&&◌, ◌||◌, ◌==◌, nat_lt, nat_le}
+use Rattle.ibx_bits.specs.Platform.{host_page, host_page_end}
 use Rattle.ibx_elf.specs.declared.ram.Ram.{Ram}
 
 -- a range of addresses that may be memory: whole pages, at most 16 MiB, below 2^32, and none of them the
--- host page from 0x20000 to 0x20fff (our own rule)
-pub record IsRam (ram : Ram) : Type 0 where
+-- host page (our own rule)
+pub record IsRamRange (ram : Ram) : Type 0 where
   pub base_in_steps : ram.base % 4096 ≡ 0
   pub size_in_steps : ram.size % 4096 ≡ 0
   pub smallest : 4096 ≤ ram.size
   pub largest : ram.size ≤ 16777216
   pub ends_below : ram.base + ram.size ≤ 2 ^ 32
-  pub off_host_page : 0x20000 < ram.base + ram.size → 0x21000 ≤ ram.base
+  pub off_host_page : host_page < ram.base + ram.size → host_page_end ≤ ram.base
+
+-- the test of `IsRamRange`
+abbrev pub is_ram_range : Ram → Bool
+is_ram_range ram = (ram.base % 4096 == 0) && (ram.size % 4096 == 0)
+    && nat_le 4096 ram.size && nat_le ram.size 16777216
+    && nat_le (ram.base + ram.size) (2 ^ 32) && (nat_le (ram.base + ram.size) host_page || nat_le host_page_end ram.base)
 
 -- an address of memory
 pub record IsInRam (ram : Ram) (addr : ℕ) : Type 0 where

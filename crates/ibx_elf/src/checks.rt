@@ -1,7 +1,7 @@
-ghost use Rattle.ibx_elf.specs.Faults.{Reports, entry_fault, file_header_fault, first_overlap, outside_fault, overlap_fault, segment_fault};
+ghost use Rattle.ibx_elf.specs.Faults.{AreAscending, Reports, entry_fault, file_header_fault, first_overlap, outside_fault, overlap_fault, segment_fault};
 ghost use Rattle.ibx_elf.specs.Fields.{HasHeaders, e_phnum, program_header};
 ghost use Rattle.ibx_elf.specs.Search.{first_below};
-ghost use Rattle.std.specs.Prelude.{OnOk, length, ◌<◌, ◌≤◌};
+ghost use Rattle.std.specs.Prelude.{IsTrue, OnOk, length, ◌<◌, ◌≤◌, ◌↔◌};
 
 use crate::fault::ElfFault;
 use crate::fields::{
@@ -102,6 +102,9 @@ fn check_overlaps_of(file: &[u8], i: u16) -> Result<(), ElfFault>
     ensures { Reports result (first_overlap file.now i) }
 {
     let first = ProgramHeader::read(file, i);
+    if !first.has_file_bytes() {
+        return Ok(());
+    }
     let count = header_count(file);
     for j in i + 1..count {
         if first.shares_address(ProgramHeader::read(file, j)) {
@@ -111,12 +114,31 @@ fn check_overlaps_of(file: &[u8], i: u16) -> Result<(), ElfFault>
     Ok(())
 }
 
-/// Checks that the file bytes of no two segments share an address.
+/// Whether the file bytes of each segment lie after those of the segments before it.
+fn are_ascending(file: &[u8]) -> bool
+    requires { HasHeaders file.now }
+    ensures { IsTrue result ↔ AreAscending file.now }
+{
+    let mut end = 0;
+    for i in 0..header_count(file) {
+        let Some(next) = ProgramHeader::read(file, i).end_after(end) else {
+            return false;
+        };
+        end = next;
+    }
+    true
+}
+
+/// Checks that the file bytes of no two segments share an address. Pairs are compared only where the file
+/// bytes don't come in ascending order, as linkers write them.
 #[tactic(auto, using(crate::proofs::Searching::steps))]
 pub(crate) fn check_overlaps(file: &[u8]) -> Result<(), ElfFault>
     requires { HasHeaders file.now }
     ensures { Reports result (first_below (first_overlap file.now) (e_phnum file.now)) }
 {
+    if are_ascending(file) {
+        return Ok(());
+    }
     for i in 0..header_count(file) {
         check_overlaps_of(file, i)?;
     }

@@ -66,8 +66,8 @@ pub(crate) struct ProgramHeader {
 }
 
 impl ProgramHeader {
-    ghost use Rattle.ibx_elf.specs.Faults.{leaves, overruns, shares_address};
-    ghost use Rattle.ibx_elf.specs.Fields.{e_phnum, e_phoff, field, is_load, program_header};
+    ghost use Rattle.ibx_elf.specs.Faults.{end_after, leaves, overruns, shares_address};
+    ghost use Rattle.ibx_elf.specs.Fields.{e_phnum, e_phoff, field, has_file_bytes, is_load, program_header};
     ghost use Rattle.ibx_elf.specs.Image.{places};
 
     /// Program header `index` of a file, counted from 0.
@@ -93,6 +93,13 @@ impl ProgramHeader {
         ensures { result ≡ is_load self }
     {
         self.p_type == PT_LOAD
+    }
+
+    /// Whether the segment has file bytes.
+    pub(crate) fn has_file_bytes(self) -> bool
+        ensures { result ≡ has_file_bytes self }
+    {
+        self.is_load() && self.p_filesz > 0
     }
 
     /// The byte address after the file bytes, up to 2^33.
@@ -125,6 +132,20 @@ impl ProgramHeader {
         let later_start = u64::from(self.p_paddr.max(other.p_paddr));
         let earlier_end = self.file_end().min(other.file_end());
         self.is_load() && other.is_load() && later_start < earlier_end
+    }
+
+    /// The byte address after the file bytes of this segment and of those before it, whose file bytes end at
+    /// `end`; none where its own begin before that.
+    pub(crate) fn end_after(self, end: u64) -> Option<u64>
+        ensures { result ≡ end_after self end }
+    {
+        if !self.has_file_bytes() {
+            Some(end)
+        } else if end <= u64::from(self.p_paddr) {
+            Some(self.file_end())
+        } else {
+            None
+        }
     }
 
     /// Whether the segment has a file byte for the byte address.

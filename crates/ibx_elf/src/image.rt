@@ -1,11 +1,12 @@
 ghost use Rattle.ibx_elf.specs.Faults.{IsWellFormed, Reports, first_fault};
-ghost use Rattle.ibx_elf.specs.Image.{HoldsSegments, IsReadable, IsZeroElsewhere, Placed, byte_of, image_of, placed_byte, word_of};
-ghost use Rattle.ibx_elf.specs.Ram.{IsInRam, IsRam};
-ghost use Rattle.std.specs.Prelude.{IfOk, ℕ, ◌+◌, ◌%◌, ◌/◌, ◌<◌, ◌^◌, ◌≡◌};
+ghost use Rattle.ibx_elf.specs.Image.{HoldsBytes, HoldsSegments, HoldsWords, IsReadable, IsZeroElsewhere, Placed, image_byte, image_of, placed_byte, image_word};
+ghost use Rattle.ibx_elf.specs.Ram.{IsInRam, IsRamRange};
+ghost use Rattle.std.specs.Prelude.{IfOk, ℕ, length, ◌+◌, ◌*◌, ◌%◌, ◌/◌, ◌<◌, ◌^◌, ◌≡◌};
 
 use crate::checks::{check_entry, check_file_header, check_overlaps, check_ranges, check_segments};
 use crate::fault::ElfFault;
 use crate::fields::{E_ENTRY, ProgramHeader, header_count, word_at};
+use crate::filling::fill_words;
 use crate::ram::Ram;
 use std::marker::Model;
 
@@ -22,7 +23,7 @@ impl<'f> Model for Image<'f> {
 
     ghost view = { λ image. image_of image.file.now image.ram };
 
-    ghost invariant = { λ image. IsRam image.ram × IsWellFormed image.file.now image.ram };
+    ghost invariant = { λ image. IsRamRange image.ram × IsWellFormed image.file.now image.ram };
 }
 
 /// Reads an ELF32 file for a RAM (System V gABI). Flags, the OS ABI, sections, `p_vaddr`, `p_flags` and
@@ -30,7 +31,7 @@ impl<'f> Model for Image<'f> {
 /// `p_offset` only where `p_filesz` isn't 0.
 #[tactic(auto, unfolding(crate::specs::Faults::first_fault))]
 pub fn load<'f>(file: &'f [u8], ram: Ram) -> Result<Image<'f>, ElfFault>
-    requires { IsRam ram }
+    requires { IsRamRange ram }
     ensures fault { Reports result (first_fault file.now ram) }
     ensures image { IfOk result (λ image. image ≡ image_of file.now ram) }
 
@@ -50,7 +51,7 @@ impl<'f> Image<'f> {
     /// The RAM that was handed to [`load`].
     pub fn ram(&self) -> Ram
         ensures handed_in { result ≡ self.now.ram }
-        ensures valid { IsRam result }
+        ensures valid { IsRamRange result }
     {
         self.ram
     }
@@ -68,8 +69,8 @@ impl<'f> Image<'f> {
     pub fn word(&self, addr: u32) -> u32
         requires aligned { addr % 4 ≡ 0 }
         requires in_ram { IsInRam self.now.ram addr }
-        ensures value { result ≡ word_of self.now addr }
-        ensures bytes { (k : ℕ) → k < 4 → result / 256 ^ k % 256 ≡ byte_of self.now (addr + k) }
+        ensures value { result ≡ image_word self.now addr }
+        ensures bytes { (k : ℕ) → k < 4 → result / 256 ^ k % 256 ≡ image_byte self.now (addr + k) }
     {
         u32::from_le_bytes([
             byte_at(self.file, addr),
@@ -77,6 +78,16 @@ impl<'f> Image<'f> {
             byte_at(self.file, addr + 2),
             byte_at(self.file, addr + 3),
         ])
+    }
+
+    /// Makes `words` all words of RAM, that at the base first, whatever they were before. It walks the
+    /// program headers once and takes no memory.
+    pub fn fill(&self, words: &mut [u32])
+        requires { 4 * length words.old ≡ self.now.ram.size }
+        ensures words { HoldsWords self.now words.new }
+        ensures bytes { HoldsBytes self.now words.new }
+    {
+        fill_words(self.file, self.ram, words);
     }
 }
 

@@ -7,6 +7,7 @@
 mod checks;
 mod fault;
 mod fields;
+mod filling;
 mod image;
 mod ram;
 

@@ -1,8 +1,8 @@
 ghost use Rattle.std.specs.Prelude.{IsTrue, ◌↔◌, ◌≡◌};
 
-/// The first byte address of the page by which a program speaks to its host (our own rule).
-const HOST_PAGE: u64 = 0x0002_0000;
-/// Bytes of the host page, and the step of a RAM's base and size (our own rule).
+use ibx_bits::{HOST_PAGE, HOST_PAGE_END};
+
+/// The step of a RAM's base and size, in bytes (our own rule).
 const PAGE_BYTES: u32 = 4_096;
 /// The largest RAM, in bytes (our own rule).
 const MAX_BYTES: u32 = 16_777_216;
@@ -17,18 +17,18 @@ pub struct Ram {
 }
 
 impl Ram {
-    ghost use Rattle.ibx_elf.specs.Ram.{IsRam, ram_has, ram_has_all};
+    ghost use Rattle.ibx_elf.specs.Ram.{IsRamRange, ram_has, ram_has_all};
 
     /// Whether base and size are in range, the memory ends at or below 2^32, and it doesn't meet the host
-    /// page, the bytes from 0x0002_0000 to 0x0002_0FFF (our own rules).
+    /// page (our own rules).
     pub fn is_valid(self) -> bool
-        ensures { IsTrue result ↔ IsRam self }
+        ensures { IsTrue result ↔ IsRamRange self }
     {
         let base = u64::from(self.base);
         let end = base + u64::from(self.size);
         let in_steps = self.base % PAGE_BYTES == 0 && self.size % PAGE_BYTES == 0;
         let in_range = PAGE_BYTES <= self.size && self.size <= MAX_BYTES && end <= 1 << 32;
-        let off_host_page = end <= HOST_PAGE || HOST_PAGE + u64::from(PAGE_BYTES) <= base;
+        let off_host_page = end <= u64::from(HOST_PAGE) || HOST_PAGE_END <= self.base;
         in_steps && in_range && off_host_page
     }
 

@@ -150,6 +150,10 @@ fn tells_the_first_fault(rt: HostRuntime) {
         (0xffff_ffff, 0, 0, None),
         (0x0010_0088, 4, 4, Some(ElfFault::Overlap(0, 1))),
         (0x0010_008c, 4, 4, None),
+        (0x0010_007c, 4, 4, None),
+        (0x0010_007c, 5, 5, Some(ElfFault::Overlap(0, 1))),
+        (0x0010_0080, 4, 4, Some(ElfFault::Overlap(0, 1))),
+        (0x0010_0084, 0, 4, None),
     ] {
         let file = with_second(p_paddr, p_filesz, p_memsz);
         assert_eq!(rt; fault_of(&file), fault, "at {p_paddr}");
@@ -163,6 +167,18 @@ fn reads_the_image(rt: HostRuntime) -> Result<(), Fail> {
     assert_eq!(rt; words_of(&LINKED)?, WORDS);
     // What is zero-filled leaves the file bytes of another segment.
     assert_eq!(rt; words_of(&with_second(0x0010_0000, 0, 4096))?, WORDS);
+
+    // The same words by one walk, whatever stood there before.
+    let ram = Ram {
+        base: 0x0010_0000,
+        size: 0x1000,
+    };
+    let mut words = [0xffff_ffff; 1024];
+    for file in [ONE.as_slice(), &LINKED] {
+        load(file, ram)?.fill(&mut words);
+        assert_eq!(rt; &words[32..36], WORDS.as_slice());
+        assert_eq!(rt; words.iter().filter(|word| **word != 0).count(), 3);
+    }
 
     let image = load(&LINKED, RAM)?;
     assert_eq!(rt; image.entry(), 0x0010_0080);

@@ -1,5 +1,13 @@
 pub mod Alu
+pub mod Causes
+pub mod ControlBits
 pub mod Cost
+pub mod CsrWrites
+pub mod Events
+pub mod Lengths
 pub mod Multiply
+pub mod Portions
+pub mod Sources
 pub mod Views
 pub mod WellFormed
+pub mod Wires

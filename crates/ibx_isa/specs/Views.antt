@@ -1,5 +1,6 @@
 -- What of an event may decide the time that it takes (this core's own rule).
 use Rattle.std.specs.Prelude.{ℕ, ◌||◌, ◌==◌, if◌then◌else◌, Option, Some, None}
+use Rattle.ibx_isa.specs.Causes.{load_fault, store_fault}
 use Rattle.ibx_isa.specs.declared.event.Access.{Access}
 use Rattle.ibx_isa.specs.declared.event.Event.{Event}
 use Rattle.ibx_isa.specs.declared.event.Event.TheVariants.{Retire, Trap, Irq}
@@ -10,9 +11,9 @@ abbrev pub access_addr : Option Access → Option ℕ
 access_addr None = None
 access_addr (Some access) = Some access.addr
 
--- causes 5 and 7, the access faults of a load and of a store
+-- the access faults of a load and of a store
 abbrev pub fault_addr : ℕ → ℕ → Option ℕ
-fault_addr cause addr = if cause == 5 || cause == 7 then Some addr else None
+fault_addr cause addr = if cause == load_fault || cause == store_fault then Some addr else None
 
 -- the view of an event: no cycle, and no value that was loaded, stored or computed
 unfoldable pub view_of : Event → View

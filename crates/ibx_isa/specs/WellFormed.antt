@@ -1,5 +1,5 @@
 -- What the fields of an instruction keep to.
-use Rattle.std.specs.Prelude.{◌≡◌, ℕ, ◌^◌, ◌<◌, ◌⊎◌}
+use Rattle.std.specs.Prelude.{◌≡◌, ℕ, ◌%◌, ◌^◌, ◌<◌, ◌⊎◌}
 use Rattle.ibx_isa.specs.declared.insn.Insn.{Insn}
 use Rattle.ibx_isa.specs.declared.insn.Insn.TheVariants.{Lui, Auipc, Jal, Jalr, Branch, Load, Store, AluImm, Alu, MulDiv, Csr, Fence, FenceI, Ecall, Ebreak, Mret, Wfi}
 
@@ -7,13 +7,14 @@ use Rattle.ibx_isa.specs.declared.insn.Insn.TheVariants.{Lui, Auipc, Jal, Jalr, 
 abbrev pub IsAccessSize : ℕ → Type 0
 IsAccessSize size = (size ≡ 1) ⊎ ((size ≡ 2) ⊎ (size ≡ 4))
 
--- Registers are x0 to x31, immediates are words of 32 bits, and CSR addresses have 12 bits (Unprivileged ISA, 2.1 and 9.1).
+-- Registers are x0 to x31, immediates are words of 32 bits, the offsets of jumps and branches are even, and CSR addresses have
+-- 12 bits (Unprivileged ISA, 2.1, 2.5 and 9.1).
 abbrev pub IsWellFormed : Insn → Type 0
 IsWellFormed (Lui rd imm) = (rd < 32) × (imm < 2 ^ 32)
 IsWellFormed (Auipc rd imm) = (rd < 32) × (imm < 2 ^ 32)
-IsWellFormed (Jal rd imm) = (rd < 32) × (imm < 2 ^ 32)
+IsWellFormed (Jal rd imm) = (rd < 32) × (imm < 2 ^ 32) × (imm % 2 ≡ 0)
 IsWellFormed (Jalr rd rs1 imm) = (rd < 32) × (rs1 < 32) × (imm < 2 ^ 32)
-IsWellFormed (Branch op rs1 rs2 imm) = (rs1 < 32) × (rs2 < 32) × (imm < 2 ^ 32)
+IsWellFormed (Branch op rs1 rs2 imm) = (rs1 < 32) × (rs2 < 32) × (imm < 2 ^ 32) × (imm % 2 ≡ 0)
 IsWellFormed (Load op rd rs1 imm) = (rd < 32) × (rs1 < 32) × (imm < 2 ^ 32)
 IsWellFormed (Store size rs1 rs2 imm) = IsAccessSize size × (rs1 < 32) × (rs2 < 32) × (imm < 2 ^ 32)
 IsWellFormed (AluImm op rd rs1 imm) = (rd < 32) × (rs1 < 32) × (imm < 2 ^ 32)

@@ -13,6 +13,17 @@ pub struct Req {
     pub word: u64,
 }
 
+impl Req {
+    /// The wires of no request.
+    pub const NONE: Req = Req {
+        valid: false,
+        write: false,
+        be: 0,
+        addr: 0,
+        word: 0,
+    };
+}
+
 /// The wires of an answer; `word` is a word of 39 bits. With `valid` false all other wires are 0.
 #[derive(Clone, Copy, Debug, PartialEq, Eq)]
 pub struct Rsp {

@@ -1,4 +1,7 @@
-use crate::{Access, AluOp, BranchOp, Event, MdOp, MulKind, alu, branch, md_cost, view};
+use crate::{
+    Access, AluOp, BranchOp, Event, LoadOp, MdOp, MulKind, alu, branch, gather, lanes, md_cost,
+    parts, view,
+};
 use std::test::Fail;
 
 #[test]
@@ -83,4 +86,52 @@ fn views(rt: HostRuntime) -> Result<(), Fail> {
         (2, 0x0010_0088, 0, 3)
     );
     Ok(())
+}
+
+// Of each size at each alignment, as by hand: the portions, and the enables and lanes of the first and the second.
+#[test]
+fn portions_of_all_sizes(rt: HostRuntime) {
+    let rows = [
+        (0, 1, 1, (0x1, 0x0000_00aa), (0x0, 0)),
+        (1, 1, 1, (0x2, 0x0000_aa00), (0x0, 0)),
+        (2, 1, 1, (0x4, 0x00aa_0000), (0x0, 0)),
+        (3, 1, 1, (0x8, 0xaa00_0000), (0x0, 0)),
+        (0, 2, 1, (0x3, 0x0000_bbaa), (0x0, 0)),
+        (1, 2, 1, (0x6, 0x00bb_aa00), (0x0, 0)),
+        (2, 2, 1, (0xc, 0xbbaa_0000), (0x0, 0)),
+        (3, 2, 2, (0x8, 0xaa00_0000), (0x1, 0x0000_00bb)),
+        (0, 4, 1, (0xf, 0xddcc_bbaa), (0x0, 0)),
+        (1, 4, 2, (0xe, 0xccbb_aa00), (0x1, 0x0000_00dd)),
+        (2, 4, 2, (0xc, 0xbbaa_0000), (0x3, 0x0000_ddcc)),
+        (3, 4, 2, (0x8, 0xaa00_0000), (0x7, 0x00dd_ccbb)),
+    ];
+    for (addr, size, count, first, second) in rows {
+        assert_eq!(rt; parts(addr, size), count);
+        assert!(rt; size <= 4);
+        assert_eq!(rt; lanes(addr, size, 0xddcc_bbaa, false), first);
+        assert_eq!(rt; lanes(addr, size, 0xddcc_bbaa, true), second);
+    }
+}
+
+#[test]
+fn values_of_loads(rt: HostRuntime) {
+    let rows = [
+        (LoadOp::Lb, 0, 0xffff_ff81),
+        (LoadOp::Lb, 3, 0x0000_0004),
+        (LoadOp::Lbu, 2, 0x0000_0083),
+        (LoadOp::Lh, 1, 0xffff_8382),
+        (LoadOp::Lh, 2, 0x0000_0483),
+        (LoadOp::Lh, 3, 0xffff_8504),
+        (LoadOp::Lhu, 3, 0x0000_8504),
+        (LoadOp::Lw, 0, 0x0483_8281),
+        (LoadOp::Lw, 1, 0x8504_8382),
+        (LoadOp::Lw, 3, 0x8786_8504),
+    ];
+    for (op, addr, value) in rows {
+        assert_eq!(rt; gather(op, addr, 0x0483_8281, 0x8887_8685), value);
+    }
+    assert_eq!(rt;
+        gather(LoadOp::Lw, 0x0010_0083, 0x0010_02b7, 0x0832_a403),
+        0x32a4_0300
+    );
 }

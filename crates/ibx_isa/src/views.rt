@@ -1,6 +1,7 @@
 ghost use Rattle.std.specs.Prelude.{◌≡◌};
 ghost use Rattle.ibx_isa.specs.Views.{view_of};
 
+use crate::cause::{LOAD_FAULT, STORE_FAULT};
 use crate::event::{Event, View};
 
 // The parts that an event's kind lacks.
@@ -48,7 +49,7 @@ pub fn view(e: &Event) -> View
             kind: 1,
             pc,
             word,
-            addr: if cause == 5 || cause == 7 {
+            addr: if cause == LOAD_FAULT || cause == STORE_FAULT {
                 Some(addr)
             } else {
                 None

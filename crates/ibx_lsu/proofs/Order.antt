@@ -31,7 +31,7 @@ module _ (u : Lsu) (want : Access) (bus : Bus) where
   turn : (s : Stage) (f c : ℕ) → Is s f (fields_at u want bus c) → turn_in u want bus c ≡ turn_at s f want (bus.rsp c)
   turn s f c is = turn_is s f (fields_at u want bus c) want (bus.rsp c) is
 
-  -- a part is asked for until it is granted
+  -- a portion is asked for until it is granted
   asking_first : (issue grant d : ℕ) → issue + d ≤ grant → ((c : ℕ) → issue ≤ c → c < grant → bus.granted c ≡ false)
       → Is AskFirst 0 (fields_at u want bus issue) → Is AskFirst 0 (fields_at u want bus (issue + d))
   asking_first issue grant zero le held is = rw (add-zero issue) is
@@ -106,7 +106,7 @@ module _ (u : Lsu) (want : Access) (bus : Bus) where
       subst (λ (n : ℕ). Is AwaitSecond f (fields_at u want bus n)) same
       (awaiting_second f (grant + 1) c (c - (grant + 1)) (omega arith) (λ k lo hi. un.silent k (omega arith) hi) begins)
 
-  -- the last cycle of the first part, by its answer
+  -- the last cycle of the first portion, by its answer
   answer_first : (c : ℕ) (r : Reply) (two : Bool) → Is AwaitFirst 0 (fields_at u want bus c) → reply_of (bus.rsp c) ≡ r → crosses want ≡ two
       → (turn_in u want bus c ≡ first_answer r two want.store (word_at bus c)) × (fields_at u want bus (c + 1) ≡ after_first r two (word_at bus c))
   answer_first c r two is e f =

@@ -1,13 +1,14 @@
--- The order of an access on the bus, over its whole run: its first part is asked for from the cycle in which it enters until the
+-- The order of an access on the bus, over its whole run: its first portion is asked for from the cycle in which it enters until the
 -- grant, its second from the cycle after the first answer. It ends at its last answer, or at the first that is bad. Our own rule.
 use Rattle.std.specs.Prelude.{◌≡◌, ℕ, zero, suc, ◌+◌, ◌<◌, ◌≤◌, Bool, true, false}
 use Rattle.ibx_isa.specs.declared.event.Access.{Access}
 use Rattle.ibx_isa.specs.declared.bus.Rsp.{Rsp}
-use Rattle.ibx_secded.specs.Code.{payload_of}
+use Rattle.ibx_secded.specs.Code.{encode_of, payload_of}
 use Rattle.ibx_lsu.specs.declared.unit.Lsu.{Lsu}
 use Rattle.ibx_lsu.specs.declared.unit.LsTurn.{LsTurn}
 use Rattle.ibx_lsu.specs.declared.unit.Reply.TheVariants.{Silent, Good, Bad}
-use Rattle.ibx_lsu.specs.Turns.{asks, crosses, faults, gives, idle_of, next_of, reply_of, request_of, turn_of, waits}
+use Rattle.ibx_lsu.specs.Turns.{asks, crosses, faults, gives, idle_of, next_of, reply_of, turn_of, awaits}
+use Rattle.ibx_isa.specs.Wires.{request_of}
 
 -- what the bus does in each cycle, counted from the one in which the access enters
 pub record Bus : Type 0 where
@@ -34,7 +35,7 @@ pub record IsUnanswered (bus : Bus) (issue grant c : ℕ) : Type 0 where
   pub later : grant < c
   pub silent : (k : ℕ) → grant < k → k < c → reply_of (bus.rsp k) ≡ Silent
 
--- the first part is answered at `past`, that answer is good, and there is a second part
+-- the first portion is answered at `past`, that answer is good, and there is a second portion
 pub record HasMore (want : Access) (bus : Bus) (grant past : ℕ) : Type 0 where
   pub first : IsUnanswered bus 0 grant past
   pub good : reply_of (bus.rsp past) ≡ Good
@@ -48,22 +49,22 @@ pub record EndsAt (u : Lsu) (want : Access) (bus : Bus) (c : ℕ) (outcome : LsT
 abbrev pub word_at : Bus → ℕ → ℕ
 word_at bus c = payload_of 32 (bus.rsp c).word
 
--- a cycle in which the first part's answer is awaited
+-- a cycle in which the first portion's answer is awaited
 pub record AwaitsFirst (u : Lsu) (want : Access) (bus : Bus) (c : ℕ) : Type 0 where
-  pub silent : reply_of (bus.rsp c) ≡ Silent → turn_in u want bus c ≡ waits
+  pub silent : reply_of (bus.rsp c) ≡ Silent → turn_in u want bus c ≡ awaits
   pub bad : reply_of (bus.rsp c) ≡ Bad → EndsAt u want bus c (faults 1)
   pub whole : reply_of (bus.rsp c) ≡ Good → crosses want ≡ false → EndsAt u want bus c (gives want.store (word_at bus c) 0)
-  pub more : reply_of (bus.rsp c) ≡ Good → crosses want ≡ true → turn_in u want bus c ≡ waits
+  pub more : reply_of (bus.rsp c) ≡ Good → crosses want ≡ true → turn_in u want bus c ≡ awaits
 
--- a cycle in which the second part's answer is awaited; the first part's came at `past`
+-- a cycle in which the second portion's answer is awaited; the first portion's came at `past`
 pub record AwaitsSecond (u : Lsu) (want : Access) (bus : Bus) (past c : ℕ) : Type 0 where
-  pub silent : reply_of (bus.rsp c) ≡ Silent → turn_in u want bus c ≡ waits
+  pub silent : reply_of (bus.rsp c) ≡ Silent → turn_in u want bus c ≡ awaits
   pub bad : reply_of (bus.rsp c) ≡ Bad → EndsAt u want bus c (faults 2)
   pub whole : reply_of (bus.rsp c) ≡ Good → EndsAt u want bus c (gives want.store (word_at bus past) (word_at bus c))
 
 -- each cycle of an access, whatever the bus does
 pub record KeepsOrder (u : Lsu) (want : Access) (bus : Bus) : Type 0 where
-  pub asks_first : (c : ℕ) → IsUngranted bus 0 c → turn_in u want bus c ≡ asks (request_of want false)
+  pub asks_first : (c : ℕ) → IsUngranted bus 0 c → turn_in u want bus c ≡ asks (request_of (encode_of 32 7) want false)
   pub awaits_first : (grant c : ℕ) → IsUnanswered bus 0 grant c → AwaitsFirst u want bus c
-  pub asks_second : (grant past c : ℕ) → HasMore want bus grant past → IsUngranted bus (past + 1) c → turn_in u want bus c ≡ asks (request_of want true)
+  pub asks_second : (grant past c : ℕ) → HasMore want bus grant past → IsUngranted bus (past + 1) c → turn_in u want bus c ≡ asks (request_of (encode_of 32 7) want true)
   pub awaits_second : (grant past other c : ℕ) → HasMore want bus grant past → IsUnanswered bus (past + 1) other c → AwaitsSecond u want bus past c

@@ -1,6 +1,8 @@
 -- A cycle of the load-store unit: what it drives, what the access comes to, and its fields after the cycle.
--- The order of the parts is this core's own rule; the wires of an access are its parts' words (Unprivileged ISA, 2.6).
-use Rattle.std.specs.Prelude.{ℕ, ◌*◌, ◌/◌, Bool, true, false, not, ◌||◌, ◌==◌, if◌then◌else◌}
+-- The order of the portions is this core's own rule; the wires of an access are its portions' words (Unprivileged ISA, 2.6).
+use Rattle.std.specs.Prelude.{ℕ, Bool, true, false, not, ◌||◌, ◌==◌, if◌then◌else◌}
+use Rattle.ibx_isa.specs.Portions.{parts_of}
+use Rattle.ibx_isa.specs.Wires.{no_request, request_of}
 use Rattle.ibx_isa.specs.declared.event.Access.{Access}
 use Rattle.ibx_isa.specs.declared.bus.Req.{Req}
 use Rattle.ibx_isa.specs.declared.bus.Rsp.{Rsp}
@@ -11,9 +13,8 @@ use Rattle.ibx_lsu.specs.declared.unit.Stage.{Stage}
 use Rattle.ibx_lsu.specs.declared.unit.Stage.TheVariants.{AskFirst, AwaitFirst, AskSecond, AwaitSecond}
 use Rattle.ibx_lsu.specs.declared.unit.Reply.{Reply}
 use Rattle.ibx_lsu.specs.declared.unit.Reply.TheVariants.{Silent, Good, Bad}
-use Rattle.ibx_lsu.specs.Portions.{lanes_of, parts_of, portion_addr}
 
--- what a state is about: 0 and 1 ask for the first part, 2 awaits its answer, 3 and 4 ask for the second part, and 5 awaits its
+-- what a state is about: 0 and 1 ask for the first portion, 2 awaits its answer, 3 and 4 ask for the second portion, and 5 awaits its
 -- answer. Another state acts as 0
 abbrev pub stage_of : ℕ → Stage
 stage_of state = if state == 2 then AwaitFirst else if (state == 3) || (state == 4) then AskSecond else if state == 5 then AwaitSecond else AskFirst
@@ -25,28 +26,12 @@ reply_of rsp = if rsp.valid then (if rsp.err || not (syndrome_of 32 7 rsp.word =
 abbrev pub crosses : Access → Bool
 crosses want = parts_of want.addr want.size == 2
 
--- the wires of no request
-abbrev pub no_request : Req
-no_request = record { valid = false; write = false; be = 0; addr = 0; word = 0 }
-
--- the request for a part: its word's address, its byte enables, and the codeword of its lanes for a store
-unfoldable pub request_of : Access → Bool → Req
-request_of want second =
-    (let lanes = lanes_of want.addr want.size want.value second in
-    record {
-      valid = true;
-      write = want.store;
-      be = lanes.0;
-      addr = portion_addr want.addr second / 4 * 4;
-      word = if want.store then encode_of 32 7 lanes.1 else 0;
-    })
-
--- a cycle that asks for a part, one that waits, one that ends the access with a fault of a part, and one that ends it with words
+-- a cycle that asks for a portion, one that waits, one that ends the access with a fault of a portion, and one that ends it with words
 abbrev pub asks : Req → LsTurn
 asks req = record { req = req; done = false; fault = 0; first = 0; second = 0 }
 
-abbrev pub waits : LsTurn
-waits = record { req = no_request; done = false; fault = 0; first = 0; second = 0 }
+abbrev pub awaits : LsTurn
+awaits = record { req = no_request; done = false; fault = 0; first = 0; second = 0 }
 
 abbrev pub faults : ℕ → LsTurn
 faults part = record { req = no_request; done = true; fault = part; first = 0; second = 0 }
@@ -55,29 +40,29 @@ abbrev pub gives : Bool → ℕ → ℕ → LsTurn
 gives true first second = record { req = no_request; done = true; fault = 0; first = 0; second = 0 }
 gives false first second = record { req = no_request; done = true; fault = 0; first = first; second = second }
 
--- the answer of the first part, by whether there is a second one and whether it is a store
+-- the answer of the first portion, by whether there is a second one and whether it is a store
 abbrev pub first_answer : Reply → Bool → Bool → ℕ → LsTurn
-first_answer Silent two store word = waits
+first_answer Silent two store word = awaits
 first_answer Bad two store word = faults 1
-first_answer Good true store word = waits
+first_answer Good true store word = awaits
 first_answer Good false store word = gives store word 0
 
 abbrev pub second_answer : Reply → Bool → ℕ → ℕ → LsTurn
-second_answer Silent store first word = waits
+second_answer Silent store first word = awaits
 second_answer Bad store first word = faults 2
 second_answer Good store first word = gives store first word
 
 abbrev pub turn_at : Stage → ℕ → Access → Rsp → LsTurn
-turn_at AskFirst first want rsp = asks (request_of want false)
+turn_at AskFirst first want rsp = asks (request_of (encode_of 32 7) want false)
 turn_at AwaitFirst first want rsp = first_answer (reply_of rsp) (crosses want) want.store (payload_of 32 rsp.word)
-turn_at AskSecond first want rsp = asks (request_of want true)
+turn_at AskSecond first want rsp = asks (request_of (encode_of 32 7) want true)
 turn_at AwaitSecond first want rsp = second_answer (reply_of rsp) want.store first (payload_of 32 rsp.word)
 
 -- the cycle of an access for this answer
 unfoldable pub turn_of : Lsu → Access → Rsp → LsTurn
 turn_of u want rsp = turn_at (stage_of u.ls_state) u.ls_first want rsp
 
--- the fields with no access, and while a part is asked for or awaited; the first word is kept for a second part alone
+-- the fields with no access, and while a portion is asked for or awaited; the first word is kept for a second portion alone
 abbrev pub idle_of : Lsu
 idle_of = record { ls_state = 0; ls_first = 0 }
 

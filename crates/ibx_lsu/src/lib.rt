@@ -1,10 +1,9 @@
-//! The load-store unit: the portions of an access, the lanes of a word, and the order of an access's parts on the bus.
+//! The load-store unit: the order of an access's portions on the bus.
 #![tactic(auto)]
 
-mod portions;
 #[cfg(test)]
 mod tests;
 mod unit;
 
-pub use portions::{gather, lanes, parts};
+pub use ibx_isa::{gather, lanes, parts};
 pub use unit::{LsTurn, Lsu};

@@ -1,21 +1,21 @@
 ghost use Rattle.std.specs.Prelude.{◌≡◌, ◌+◌, ◌*◌, ◌/◌, ◌%◌, ◌^◌, ◌<◌, ◌≤◌, Bool, true, false, if◌then◌else◌};
 ghost use Rattle.ibx_secded.specs.Code.{encode_of, payload_of};
-ghost use Rattle.ibx_lsu.specs.Portions.{portion_addr};
-ghost use Rattle.ibx_lsu.specs.Turns.{after_first, after_second, asked_first, asked_second, asks, crosses, faults, first_answer, gives, idle_of, next_of, no_request, reply_of, request_of, second_answer, stage_of, turn_of, waits};
+ghost use Rattle.ibx_isa.specs.Portions.{portion_addr};
+ghost use Rattle.ibx_lsu.specs.Turns.{after_first, after_second, asked_first, asked_second, asks, crosses, faults, first_answer, gives, idle_of, next_of, reply_of, second_answer, stage_of, turn_of, awaits};
+ghost use Rattle.ibx_isa.specs.Wires.{no_request, request_of};
 ghost use Rattle.ibx_isa.specs.declared.event.Access.{Access};
 ghost use Rattle.ibx_lsu.specs.Order.{Bus, KeepsOrder};
 
-use crate::portions::{lanes, parts};
-use ibx_isa::{Access, Req, Rsp};
+use ibx_isa::{Access, Req, Rsp, lanes, parts};
 use ibx_secded::Code;
 
 /// The load-store unit: how far an access has come on the bus. Every value of its fields is a state.
 #[derive(Clone, Copy, Debug, PartialEq, Eq)]
 pub struct Lsu {
-    /// 0 with no access, 1 where the first part isn't granted yet, 2 where it is, 3 where the second is due, 4 where
+    /// 0 with no access, 1 where the first portion isn't granted yet, 2 where it is, 3 where the second is due, 4 where
     /// it isn't granted yet, and 5 where it is. Other values act as 0.
     pub ls_state: u8,
-    /// The word of the first part, from the cycle after its answer until the second part's.
+    /// The word of the first portion, from the cycle after its answer until the second portion's.
     pub ls_first: u32,
 }
 
@@ -26,11 +26,11 @@ pub struct LsTurn {
     pub req: Req,
     /// Whether this cycle's answer ends the access.
     pub done: bool,
-    /// The part, 1 or 2, whose answer is a bus error or has a flipped bit, else 0.
+    /// The portion, 1 or 2, whose answer is a bus error or has a flipped bit, else 0.
     pub fault: u8,
-    /// The word of a load's first part in the cycle that ends it without a fault, else 0.
+    /// The word of a load's first portion in the cycle that ends it without a fault, else 0.
     pub first: u32,
-    /// The word of its second part in that cycle, 0 for a load of one part, else 0.
+    /// The word of its second portion in that cycle, 0 for a load of one portion, else 0.
     pub second: u32,
 }
 
@@ -65,7 +65,7 @@ impl Lsu {
     }
 
     /// What the access `want`, of at most 4 bytes, does in this cycle with the answer `rsp`, a word of 39 bits. A
-    /// part is asked for until it is granted. The second is asked for from the cycle after the first one's answer
+    /// portion is asked for until it is granted. The second is asked for from the cycle after the first one's answer
     /// on, and not at all where that answer is bad.
     #[tactic(auto, unfolding(crate::specs::Turns::turn_of))]
     pub fn turn(&self, want: &Access, rsp: &Rsp) -> LsTurn
@@ -149,10 +149,10 @@ fn crossing(want: &Access) -> bool
     parts(want.addr, want.size) == 2
 }
 
-#[tactic(auto, unfolding(crate::specs::Turns::request_of, crate::specs::Portions::lanes_of))]
+#[tactic(auto, unfolding(ibx_isa::specs::Wires::request_of, ibx_isa::specs::Portions::lanes_of))]
 fn request(want: &Access, second: bool) -> Req
     requires { want.now.size ≤ 4 }
-    ensures request { result ≡ request_of want.now second }
+    ensures request { result ≡ request_of (encode_of 32 7) want.now second }
     ensures aligned { result.addr % 4 ≡ 0 }
     ensures enables { result.be < 16 }
     ensures word { result.word < 2 ^ 39 }
@@ -162,13 +162,13 @@ fn request(want: &Access, second: bool) -> Req
         valid: true,
         write: want.store,
         be,
-        addr: part_addr(want.addr, second),
+        addr: word_address(want.addr, second),
         word: store_word(want.store, bits),
     }
 }
 
-// The address of the word of a part.
-fn part_addr(addr: u32, second: bool) -> u32
+// The address of the word of a portion.
+fn word_address(addr: u32, second: bool) -> u32
     ensures value { result ≡ portion_addr addr second / 4 * 4 }
     ensures aligned { result % 4 ≡ 0 }
 {
@@ -184,18 +184,6 @@ fn store_word(store: bool, bits: u32) -> u64
         Code::<32, 7>::encode(bits as u64)
     } else {
         0
-    }
-}
-
-fn silence() -> Req
-    ensures { result ≡ no_request }
-{
-    Req {
-        valid: false,
-        write: false,
-        be: 0,
-        addr: 0,
-        word: 0,
     }
 }
 
@@ -217,7 +205,7 @@ fn failing(part: u8) -> LsTurn
     LsTurn {
         done: true,
         fault: part,
-        ..asking(silence())
+        ..asking(Req::NONE)
     }
 }
 
@@ -226,7 +214,7 @@ fn giving(store: bool, first: u32, second: u32) -> LsTurn
 {
     let done = LsTurn {
         done: true,
-        ..asking(silence())
+        ..asking(Req::NONE)
     };
     if store {
         done
@@ -243,9 +231,9 @@ fn answer_first(reply: Reply, two: bool, store: bool, word: u32) -> LsTurn
     ensures { result ≡ first_answer reply two store word }
 {
     match reply {
-        Reply::Silent => asking(silence()),
+        Reply::Silent => asking(Req::NONE),
         Reply::Bad => failing(1),
-        Reply::Good if two => asking(silence()),
+        Reply::Good if two => asking(Req::NONE),
         Reply::Good => giving(store, word, 0),
     }
 }
@@ -254,7 +242,7 @@ fn answer_second(reply: Reply, store: bool, first: u32, word: u32) -> LsTurn
     ensures { result ≡ second_answer reply store first word }
 {
     match reply {
-        Reply::Silent => asking(silence()),
+        Reply::Silent => asking(Req::NONE),
         Reply::Bad => failing(2),
         Reply::Good => giving(store, first, word),
     }

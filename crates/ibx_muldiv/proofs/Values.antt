@@ -35,13 +35,13 @@ mixed_product (pos m) n h = rw (not_below m) refl
 mixed_product (negsuc m) n h = neg_double (suc m * n) (omega arith)
 
 -- the quotient of two signed numbers, by a number that isn't 0
-quotient_some : (x y : ℤ) → unsigned_abs x < 2 ^ 32 → negated 32 (differ (is_negative x) (is_negative y)) (unsigned_abs x / unsigned_abs y) ≡ cast_unsigned w32 (int_div x y)
+pub quotient_some : (x y : ℤ) → unsigned_abs x < 2 ^ 32 → negated 32 (differ (is_negative x) (is_negative y)) (unsigned_abs x / unsigned_abs y) ≡ cast_unsigned w32 (int_div x y)
 quotient_some (pos m) (pos n) h = rw (not_below m, not_below n) refl
 quotient_some (pos m) (negsuc n) h = rw (not_below m) (neg_word (m / suc n) (omega (arith, div-le_self m (suc n))))
 quotient_some (negsuc m) (pos n) h = rw (not_below n) (neg_word (suc m / n) (omega (arith, div-le_self (suc m) n)))
 quotient_some (negsuc m) (negsuc n) h = refl
 
-remainder_some : (x y : ℤ) → unsigned_abs x < 2 ^ 32 → negated 32 (is_negative x) (unsigned_abs x % unsigned_abs y) ≡ cast_unsigned w32 (int_rem x y)
+pub remainder_some : (x y : ℤ) → unsigned_abs x < 2 ^ 32 → negated 32 (is_negative x) (unsigned_abs x % unsigned_abs y) ≡ cast_unsigned w32 (int_rem x y)
 remainder_some (pos m) y h = rw (not_below m) refl
 remainder_some (negsuc m) y h = neg_word (suc m % unsigned_abs y) (omega (arith, mod-le (suc m) (unsigned_abs y)))
 

@@ -15,7 +15,7 @@ use Rattle.ibx_plan.specs.declared.entry.Entry.{Entry}
 use Rattle.ibx_plan.specs.declared.entry.Entry.TheVariants as entry
 use Rattle.ibx_plan.specs.declared.site.Flip.{Flip}
 use Rattle.ibx_plan.specs.Line.{is_skipped, line_entry}
-use Rattle.ibx_plan.specs.Plan.{PlanValue, empty_plan, and_then, appended, follows, with_entry, with_said, with_line, with_lines, with_flip, plan_of, said, entries_of, iwait_of, dwait_of, change_of, flip_of, Holds, Answers}
+use Rattle.ibx_plan.specs.Plan.{PlanValue, empty_plan, and_then, appended, follows, plan_with_entry, with_said, with_line, with_lines, with_flip, plan_of, said, entries_of, iwait_of, dwait_of, change_of, planned_flip, Holds, ReadsPlan}
 use Rattle.ibx_plan.specs.Text.{words}
 use Rattle.ibx_plan.proofs.Flips.{then_ok, chosen, passed, both, with_flip_ok}
 
@@ -38,21 +38,21 @@ was_none : (o : Option Flip) (xs : List Flip) → is_none o ≡ true → option_
 was_none None xs gone h = h
 was_none (Some f) xs gone h = cc
 
-add_one : (bounds : Bounds) (line : ℕ) (plan next : PlanValue) (es : List Entry) (e : Entry) → with_entry bounds line plan e ≡ Ok next → Holds plan es → Holds next (es ++ e ∷ [])
-unfolding with_entry
+add_one : (bounds : Bounds) (line : ℕ) (plan next : PlanValue) (es : List Entry) (e : Entry) → plan_with_entry bounds line plan e ≡ Ok next → Holds plan es → Holds next (es ++ e ∷ [])
+unfolding plan_with_entry
 add_one bounds line plan next es (entry.Iwait wait) h has = subst (λ (p : PlanValue). Holds p (es ++ entry.Iwait wait ∷ [])) (made plan.iwaits wait line (λ more. record plan { iwaits = more }) next h)
     (record {
       iwaits = grown iwait_of plan.iwaits es (entry.Iwait wait) wait has.iwaits refl;
       dwaits = kept dwait_of plan.dwaits es (entry.Iwait wait) has.dwaits refl;
       changes = kept change_of plan.changes es (entry.Iwait wait) has.changes refl;
-      flips = kept flip_of (option_to_list plan.flip) es (entry.Iwait wait) has.flips refl;
+      flips = kept planned_flip (option_to_list plan.flip) es (entry.Iwait wait) has.flips refl;
     })
 add_one bounds line plan next es (entry.Dwait wait) h has = subst (λ (p : PlanValue). Holds p (es ++ entry.Dwait wait ∷ [])) (made plan.dwaits wait line (λ more. record plan { dwaits = more }) next h)
     (record {
       iwaits = kept iwait_of plan.iwaits es (entry.Dwait wait) has.iwaits refl;
       dwaits = grown dwait_of plan.dwaits es (entry.Dwait wait) wait has.dwaits refl;
       changes = kept change_of plan.changes es (entry.Dwait wait) has.changes refl;
-      flips = kept flip_of (option_to_list plan.flip) es (entry.Dwait wait) has.flips refl;
+      flips = kept planned_flip (option_to_list plan.flip) es (entry.Dwait wait) has.flips refl;
     })
 add_one bounds line plan next es (entry.Irq change) h has =
     let ok = passed (follows plan.changes change) (and_then (appended plan.changes change line) (λ more. Ok (record plan { changes = more }))) (fault.Line line kind.Order) next h in
@@ -61,7 +61,7 @@ add_one bounds line plan next es (entry.Irq change) h has =
       iwaits = kept iwait_of plan.iwaits es (entry.Irq change) has.iwaits refl;
       dwaits = kept dwait_of plan.dwaits es (entry.Irq change) has.dwaits refl;
       changes = grown change_of plan.changes es (entry.Irq change) change has.changes refl;
-      flips = kept flip_of (option_to_list plan.flip) es (entry.Irq change) has.flips refl;
+      flips = kept planned_flip (option_to_list plan.flip) es (entry.Irq change) has.flips refl;
     })
 add_one bounds line plan next es (entry.Flip flip) h has =
     let at = chosen _ (record plan { flip = Some flip }) (fault.Line line kind.Flip) next h in
@@ -71,7 +71,7 @@ add_one bounds line plan next es (entry.Flip flip) h has =
       iwaits = kept iwait_of plan.iwaits es (entry.Flip flip) has.iwaits refl;
       dwaits = kept dwait_of plan.dwaits es (entry.Flip flip) has.dwaits refl;
       changes = kept change_of plan.changes es (entry.Flip flip) has.changes refl;
-      flips = grown flip_of [] es (entry.Flip flip) flip (was_none plan.flip _ gone has.flips) refl;
+      flips = grown planned_flip [] es (entry.Flip flip) flip (was_none plan.flip _ gone has.flips) refl;
     })
 
 none_more : (plan next : PlanValue) (es : List Entry) → plan ≡ next → Holds plan es → Holds next (es ++ [])
@@ -106,6 +106,6 @@ whole bounds text plan h =
     subst (λ (p : PlanValue). Holds p (entries_of bounds text)) (with_flip_ok _ at.0 plan at.2)
     (all_lines bounds 1 empty_plan at.0 [] (lines text) at.1 (record { iwaits = refl; dwaits = refl; changes = refl; flips = refl }))
 
-pub plan_holds : (r : Result PlanValue PlanFault) (bounds : Bounds) (text : List ℕ) → Answers r (plan_of bounds text) → IfOk r (λ plan. Holds plan (entries_of bounds text))
+pub plan_holds : (r : Result PlanValue PlanFault) (bounds : Bounds) (text : List ℕ) → ReadsPlan r (plan_of bounds text) → IfOk r (λ plan. Holds plan (entries_of bounds text))
 plan_holds (Ok plan) bounds text h = whole bounds text plan h
 plan_holds (Err e) bounds text h = tt

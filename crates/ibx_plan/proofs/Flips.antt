@@ -10,8 +10,8 @@ use Rattle.ibx_plan.specs.declared.entry.Entry.{Entry}
 use Rattle.ibx_plan.specs.declared.entry.Entry.TheVariants as entry
 use Rattle.ibx_plan.specs.declared.row.Row.{Row}
 use Rattle.ibx_plan.specs.declared.site.Flip.{Flip}
-use Rattle.ibx_plan.specs.Line.{is_skipped, line_entry, row_entry, row_of, entry_fits, in_range, are_numbers, places, entry_of, number_at}
-use Rattle.ibx_plan.specs.Plan.{PlanValue, empty_plan, and_then, appended, follows, with_entry, with_said, with_line, with_lines, with_flip, plan_of, FlipFits, Answers}
+use Rattle.ibx_plan.specs.Line.{is_skipped, line_entry, row_entry, row_of, entry_fits, in_range, are_numbers, number_places, entry_of, number_at}
+use Rattle.ibx_plan.specs.Plan.{PlanValue, empty_plan, and_then, appended, follows, plan_with_entry, with_said, with_line, with_lines, with_flip, plan_of, FlipFits, ReadsPlan}
 use Rattle.ibx_plan.specs.Sites.{site_fits}
 use Rattle.ibx_plan.specs.Text.{words}
 
@@ -36,7 +36,7 @@ range_fits bounds x e h = let at = chosen (entry_fits bounds x) x kind.Range e h
 row_fits : (bounds : Bounds) (ws : List (List ℕ)) (r : Option Row) (e : Entry) → row_entry bounds ws r ≡ Ok e → entry_fits bounds e ≡ true
 unfolding row_entry
 row_fits bounds ws None e h = cc
-row_fits bounds ws (Some r) e h = range_fits bounds (entry_of r (number_at ws)) e (passed (are_numbers ws (places r)) (in_range bounds (entry_of r (number_at ws))) kind.Number e h)
+row_fits bounds ws (Some r) e h = range_fits bounds (entry_of r (number_at ws)) e (passed (are_numbers ws (number_places r)) (in_range bounds (entry_of r (number_at ws))) kind.Number e h)
 
 pub both : (a b : Bool) → (a && b) ≡ true → (a ≡ true) × (b ≡ true)
 both true b h = (refl, h)
@@ -51,8 +51,8 @@ same_flip : {A : Type 0} (bounds : Bounds) (plan next : PlanValue) (r : Result A
 same_flip bounds plan next (Ok x) f same h fits = let e : f x ≡ next = cc in subst (HasFit bounds) e (subst (λ (o : Option Flip). IfSome o (FlipFits bounds)) (sym (same x)) fits)
 same_flip bounds plan next (Err x) f same h fits = cc
 
-entry_keeps : (bounds : Bounds) (line : ℕ) (plan next : PlanValue) (e : Entry) → entry_fits bounds e ≡ true → with_entry bounds line plan e ≡ Ok next → HasFit bounds plan → HasFit bounds next
-unfolding with_entry
+entry_keeps : (bounds : Bounds) (line : ℕ) (plan next : PlanValue) (e : Entry) → entry_fits bounds e ≡ true → plan_with_entry bounds line plan e ≡ Ok next → HasFit bounds plan → HasFit bounds next
+unfolding plan_with_entry
 entry_keeps bounds line plan next (entry.Iwait wait) good h fits = same_flip bounds plan next (appended plan.iwaits wait line) (λ more. record plan { iwaits = more }) (λ _. refl) h fits
 entry_keeps bounds line plan next (entry.Dwait wait) good h fits = same_flip bounds plan next (appended plan.dwaits wait line) (λ more. record plan { dwaits = more }) (λ _. refl) h fits
 entry_keeps bounds line plan next (entry.Irq change) good h fits =
@@ -91,6 +91,6 @@ whole_fits bounds text plan h =
     let at = then_ok (with_lines bounds 1 empty_plan (lines text)) (with_flip bounds) plan h in
     subst (HasFit bounds) (with_flip_ok _ at.0 plan at.2) (lines_keep bounds 1 empty_plan at.0 (lines text) at.1 tt)
 
-pub plan_fits : (r : Result PlanValue PlanFault) (bounds : Bounds) (text : List ℕ) → Answers r (plan_of bounds text) → IfOk r (HasFit bounds)
+pub plan_fits : (r : Result PlanValue PlanFault) (bounds : Bounds) (text : List ℕ) → ReadsPlan r (plan_of bounds text) → IfOk r (HasFit bounds)
 plan_fits (Ok plan) bounds text h = whole_fits bounds text plan h
 plan_fits (Err e) bounds text h = tt

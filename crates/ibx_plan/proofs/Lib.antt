@@ -1,4 +1,7 @@
 pub mod Lines
-pub mod Steps
+pub mod Narrow
+pub mod Cut
+pub mod Halving
+pub mod OneLine
 pub mod Flips
 pub mod Entries

@@ -3,6 +3,7 @@ use Rattle.std.specs.Prelude.{ℕ, Bool, ◌==◌, ◌&&◌, ◌||◌, nat_eq, n
 use Rattle.std.specs.List.{find, list_all, starts_with}
 use Rattle.std.specs.Option.{option_map, option_and_then}
 use Rattle.std.specs.Str.{bytes_eq}
+use Rattle.ibx_bits.specs.Platform.{interrupt_lines}
 use Rattle.ibx_plan.specs.declared.bounds.Bounds.{Bounds}
 use Rattle.ibx_plan.specs.declared.bounds.LineKind.{LineKind}
 use Rattle.ibx_plan.specs.declared.bounds.LineKind.TheVariants as fault
@@ -16,7 +17,7 @@ use Rattle.ibx_plan.specs.declared.row.Target.{Target}
 use Rattle.ibx_plan.specs.declared.row.Target.TheVariants as target
 use Rattle.ibx_plan.specs.declared.site.Site.{Site}
 use Rattle.ibx_plan.specs.declared.site.Site.TheVariants as site
-use Rattle.ibx_plan.specs.Names.{fields, wires, outputs, number_in}
+use Rattle.ibx_plan.specs.Names.{fields, wires, outputs, number_named}
 use Rattle.ibx_plan.specs.Sites.{site_fits}
 use Rattle.ibx_number.specs.Number.{number_of}
 use Rattle.ibx_plan.specs.Text.{word}
@@ -38,13 +39,13 @@ flip_rows =
 
 -- the site that a flip's line names, but for the numbers in it
 unfoldable pub named : Kind → List (List ℕ) → Option Target
-named kind.Main ws = option_map target.Main (number_in fields (word ws 3))
-named kind.Shadow ws = option_map target.Shadow (number_in fields (word ws 3))
-named kind.Delay ws = option_map target.Delay (number_in wires (word ws 4))
+named kind.Main ws = option_map target.Main (number_named fields (word ws 3))
+named kind.Shadow ws = option_map target.Shadow (number_named fields (word ws 3))
+named kind.Delay ws = option_map target.Delay (number_named wires (word ws 4))
 named kind.Reg ws = Some target.Reg
 named kind.Tag ws = Some target.Tag
 named kind.Line ws = Some target.Line
-named kind.Output ws = option_map target.Output (number_in outputs (word ws 3))
+named kind.Output ws = option_map target.Output (number_named outputs (word ws 3))
 named kind.Answer ws = Some target.Answer
 named kind.Mem ws = Some target.Mem
 
@@ -72,11 +73,11 @@ site_places (target.Output wire) = 4 ∷ []
 site_places target.Answer = 3 ∷ 4 ∷ []
 site_places target.Mem = 3 ∷ 4 ∷ []
 
-unfoldable pub places : Row → List ℕ
-places row.Iwait = 1 ∷ 2 ∷ []
-places row.Dwait = 1 ∷ 2 ∷ []
-places row.Irq = 1 ∷ 2 ∷ []
-places (row.Flip place) = 1 ∷ site_places place
+unfoldable pub number_places : Row → List ℕ
+number_places row.Iwait = 1 ∷ 2 ∷ []
+number_places row.Dwait = 1 ∷ 2 ∷ []
+number_places row.Irq = 1 ∷ 2 ∷ []
+number_places (row.Flip place) = 1 ∷ site_places place
 
 -- whether each word at these indices is a number
 abbrev pub are_numbers : List (List ℕ) → List ℕ → Bool
@@ -109,7 +110,7 @@ entry_of (row.Flip place) at = entry.Flip (record { cycle = at 1; site = site_of
 unfoldable pub entry_fits : Bounds → Entry → Bool
 entry_fits bounds (entry.Iwait wait) = nat_le wait.grant 255 && nat_le wait.answer 255
 entry_fits bounds (entry.Dwait wait) = nat_le wait.grant 255 && nat_le wait.answer 255
-entry_fits bounds (entry.Irq change) = nat_le change.cycle 1000000000 && (bit_and change.mask 0x7fff0888 == change.mask)
+entry_fits bounds (entry.Irq change) = nat_le change.cycle 1000000000 && (bit_and change.mask interrupt_lines == change.mask)
 entry_fits bounds (entry.Flip flip) = nat_lt flip.cycle bounds.cycles && site_fits bounds.ram_words flip.site
 
 abbrev pub in_range : Bounds → Entry → Result Entry LineKind
@@ -117,7 +118,7 @@ in_range bounds e = if entry_fits bounds e then Ok e else Err fault.Range
 
 unfoldable pub row_entry : Bounds → List (List ℕ) → Option Row → Result Entry LineKind
 row_entry bounds ws None = Err fault.Word
-row_entry bounds ws (Some r) = if are_numbers ws (places r) then in_range bounds (entry_of r (number_at ws)) else Err fault.Number
+row_entry bounds ws (Some r) = if are_numbers ws (number_places r) then in_range bounds (entry_of r (number_at ws)) else Err fault.Number
 
 -- the entry of a line with these words, or the first fault that it has: a word, a number, a range
 abbrev pub line_entry : Bounds → List (List ℕ) → Result Entry LineKind

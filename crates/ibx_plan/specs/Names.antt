@@ -50,8 +50,8 @@ outputs =
     (codes "data1", 39) ∷ []
 
 -- the number of the part of this name, none where no part has it
-abbrev pub number_in : List (List ℕ × ℕ) → List ℕ → Option ℕ
-number_in table name = position (λ row. bytes_eq row.0 name) table
+abbrev pub number_named : List (List ℕ × ℕ) → List ℕ → Option ℕ
+number_named table name = position (λ row. bytes_eq row.0 name) table
 
 -- the width of the part of this number, 0 past the table
 abbrev pub width_in : List (List ℕ × ℕ) → ℕ → ℕ

@@ -50,18 +50,18 @@ abbrev pub follows : List Change → Change → Bool
 follows changes change = option_map_or (λ last. nat_lt last.cycle change.cycle) (slice_get changes (length changes - 1)) true
 
 -- the plan with the entry of the line of this number
-unfoldable pub with_entry : Bounds → ℕ → PlanValue → Entry → Result PlanValue PlanFault
-with_entry bounds line plan (entry.Iwait wait) = and_then (appended plan.iwaits wait line) (λ more. Ok (record plan { iwaits = more }))
-with_entry bounds line plan (entry.Dwait wait) = and_then (appended plan.dwaits wait line) (λ more. Ok (record plan { dwaits = more }))
-with_entry bounds line plan (entry.Irq change) = if follows plan.changes change
+unfoldable pub plan_with_entry : Bounds → ℕ → PlanValue → Entry → Result PlanValue PlanFault
+plan_with_entry bounds line plan (entry.Iwait wait) = and_then (appended plan.iwaits wait line) (λ more. Ok (record plan { iwaits = more }))
+plan_with_entry bounds line plan (entry.Dwait wait) = and_then (appended plan.dwaits wait line) (λ more. Ok (record plan { dwaits = more }))
+plan_with_entry bounds line plan (entry.Irq change) = if follows plan.changes change
     then and_then (appended plan.changes change line) (λ more. Ok (record plan { changes = more }))
     else Err (fault.Line line kind.Order)
-with_entry bounds line plan (entry.Flip flip) = if nat_lt 0 bounds.flips && is_none plan.flip
+plan_with_entry bounds line plan (entry.Flip flip) = if nat_lt 0 bounds.flips && is_none plan.flip
     then Ok (record plan { flip = Some flip })
     else Err (fault.Line line kind.Flip)
 
 abbrev pub with_said : Bounds → ℕ → PlanValue → Result Entry LineKind → Result PlanValue PlanFault
-with_said bounds line plan (Ok e) = with_entry bounds line plan e
+with_said bounds line plan (Ok e) = plan_with_entry bounds line plan e
 with_said bounds line plan (Err k) = Err (fault.Line line k)
 
 -- the plan with the line of this number
@@ -101,16 +101,16 @@ abbrev pub change_of : Entry → Option Change
 change_of (entry.Irq change) = Some change
 change_of _ = None
 
-abbrev pub flip_of : Entry → Option Flip
-flip_of (entry.Flip flip) = Some flip
-flip_of _ = None
+abbrev pub planned_flip : Entry → Option Flip
+planned_flip (entry.Flip flip) = Some flip
+planned_flip _ = None
 
 -- a plan holds these entries, each kind in its order, and no others
 pub record Holds (plan : PlanValue) (entries : List Entry) : Type 0 where
   pub iwaits : plan.iwaits ≡ filter_map iwait_of entries
   pub dwaits : plan.dwaits ≡ filter_map dwait_of entries
   pub changes : plan.changes ≡ filter_map change_of entries
-  pub flips : option_to_list plan.flip ≡ filter_map flip_of entries
+  pub flips : option_to_list plan.flip ≡ filter_map planned_flip entries
 
 -- the flip is made in a cycle of the run, at a bit that there is
 pub record FlipFits (bounds : Bounds) (flip : Flip) : Type 0 where
@@ -125,9 +125,9 @@ Fails (fault.TooMany line) wanted = wanted ≡ Err (fault.TooMany line)
 Fails (fault.Line line k) wanted = wanted ≡ Err (fault.Line line k)
 
 -- an answer is the one that is wanted, unless memory ran out
-abbrev pub Answers : {A : Type 0} → Result A PlanFault → Result A PlanFault → Type 0
-Answers (Ok x) wanted = wanted ≡ Ok x
-Answers (Err e) wanted = Fails e wanted
+abbrev pub ReadsPlan : {A : Type 0} → Result A PlanFault → Result A PlanFault → Type 0
+ReadsPlan (Ok x) wanted = wanted ≡ Ok x
+ReadsPlan (Err e) wanted = Fails e wanted
 
 -- the same of a call that leaves a value behind
 abbrev pub Leaves : {A : Type 0} → Result (Unit {0}) PlanFault → A → Result A PlanFault → Type 0

@@ -1,20 +1,42 @@
 -- Which bits of the machine there are: our own rule. A stored word has 39 bits, a tag word 28.
-use Rattle.std.specs.Prelude.{ℕ, Bool, ◌==◌, ◌&&◌, nat_lt, nat_le, Option, Some, None, if◌then◌else◌}
+use Rattle.std.specs.Prelude.{ℕ, Bool, ◌==◌, ◌&&◌, nat_lt, nat_le, List, [], ◌∷◌, Option, Some, None, if◌then◌else◌}
+use Rattle.std.specs.List.{list_all}
 use Rattle.ibx_plan.specs.declared.site.Site.{Site}
 use Rattle.ibx_plan.specs.declared.site.Site.TheVariants as site
 use Rattle.ibx_plan.specs.Names.{fields, wires, outputs, width_in}
 
+-- a number, the first of its range, and the end of its range, which is the first number past it
+pub record Ranged : Type 0 where
+  pub number : ℕ
+  pub first : ℕ
+  pub end : ℕ
+
+abbrev pub ranged : ℕ → ℕ → ℕ → Ranged
+ranged number first end = record { number = number; first = first; end = end }
+
+-- how many slots a delayed wire has: the age of the delayed pairs has slot 0 alone
+abbrev pub slots : ℕ → ℕ
+slots wire = if wire == 36 then 1 else 2
+
+-- the ranges of each site's numbers, in the order of its line
+unfoldable pub ranges : ℕ → Site → List Ranged
+ranges ram_words (site.Main field bit) = ranged bit 0 (width_in fields field) ∷ []
+ranges ram_words (site.Shadow field bit) = ranged bit 0 (width_in fields field) ∷ []
+ranges ram_words (site.Delay slot wire bit) = ranged slot 0 (slots wire) ∷ ranged bit 0 (width_in wires wire) ∷ []
+ranges ram_words (site.Reg n bit) = ranged n 1 32 ∷ ranged bit 0 39 ∷ []
+ranges ram_words (site.Tag set way bit) = ranged set 0 256 ∷ ranged way 0 2 ∷ ranged bit 0 28 ∷ []
+ranges ram_words (site.Line set way half bit) = ranged set 0 256 ∷ ranged way 0 2 ∷ ranged half 0 2 ∷ ranged bit 0 39 ∷ []
+ranges ram_words (site.Output wire bit) = ranged bit 0 (width_in outputs wire) ∷ []
+ranges ram_words (site.Answer port bit) = ranged port 0 2 ∷ ranged bit 0 39 ∷ []
+ranges ram_words (site.Mem word bit) = ranged word 0 ram_words ∷ ranged bit 0 39 ∷ []
+
+-- whether a number is in its range
+abbrev pub is_within : Ranged → Bool
+is_within r = nat_le r.first r.number && nat_lt r.number r.end
+
 -- whether there is such a bit in a machine with so many words of RAM
 unfoldable pub site_fits : ℕ → Site → Bool
-site_fits ram_words (site.Main field bit) = nat_lt field 87 && nat_lt bit (width_in fields field)
-site_fits ram_words (site.Shadow field bit) = nat_lt field 87 && nat_lt bit (width_in fields field)
-site_fits ram_words (site.Delay slot wire bit) = nat_lt wire 37 && nat_le slot (if wire == 36 then 0 else 1) && nat_lt bit (width_in wires wire)
-site_fits ram_words (site.Reg n bit) = nat_le 1 n && nat_le n 31 && nat_le bit 38
-site_fits ram_words (site.Tag set way bit) = nat_le set 255 && nat_le way 1 && nat_le bit 27
-site_fits ram_words (site.Line set way half bit) = nat_le set 255 && nat_le way 1 && nat_le half 1 && nat_le bit 38
-site_fits ram_words (site.Output wire bit) = nat_lt wire 6 && nat_lt bit (width_in outputs wire)
-site_fits ram_words (site.Answer port bit) = nat_le port 1 && nat_le bit 38
-site_fits ram_words (site.Mem word bit) = nat_lt word ram_words && nat_le bit 38
+site_fits ram_words place = list_all is_within (ranges ram_words place)
 
 -- the site, where there is such a bit
 abbrev pub fitting : ℕ → Site → Option Site

@@ -15,6 +15,9 @@
 #![tactic(auto)]
 
 mod bounds;
+mod capped;
+mod changes;
+mod counter;
 mod entry;
 mod lists;
 mod names;
@@ -27,6 +30,7 @@ mod tests;
 mod text;
 
 pub use bounds::{Bounds, LineKind, PlanFault};
+pub use counter::Steps;
 pub use lists::Plan;
 pub use names::{FIELDS, field_named, width};
 pub use reader::read;

@@ -1,24 +1,24 @@
-ghost use Rattle.std.specs.Prelude.{◌≡◌, nat_le, reverse};
-ghost use Rattle.std.specs.List.{find};
-ghost use Rattle.std.specs.Option.{option_map};
-ghost use Rattle.ibx_plan.specs.Plan.{empty_plan, change_at, lines_at, follows, appended, with_entry, with_line, Leaves};
+ghost use Rattle.std.specs.Prelude.{◌≡◌, ◌+◌, ◌-◌, ◌*◌, ◌^◌, ◌<◌, ◌≤◌, length};
+ghost use Rattle.ibx_plan.specs.Plan.{empty_plan, lines_at, plan_with_entry, with_line, Leaves};
 
 use crate::bounds::{Bounds, LineKind, PlanFault};
-use crate::entry::{Change, Entry, line_entry};
+use crate::capped::append;
+use crate::changes::Changes;
+use crate::counter::Steps;
+use crate::entry::{Entry, line_entry};
 use crate::row::is_skipped;
 use crate::site::{Flip, Wait};
+use crate::text::Words;
 use std::alloc::Global;
-use std::marker::Model;
-
-// The most entries of each list.
-const MOST: usize = 65_536;
+use std::marker::{Brand, Model};
+use std::sync::ledger::{Blank, Ledger};
 
 /// The waits of each port's transactions, the changes of the interrupt lines, and at most one flip.
 #[derive(Drop)]
 pub struct Plan {
     iwaits: Vec<Wait>,
     dwaits: Vec<Wait>,
-    changes: Vec<Change>,
+    changes: Changes,
     flip: Option<Flip>,
 }
 
@@ -27,34 +27,7 @@ impl Model for Plan {
 
     ghost Value = { PlanValue };
 
-    ghost view = { λ p. record { iwaits = p.iwaits.items; dwaits = p.dwaits.items; changes = p.changes.items; flip = p.flip } };
-}
-
-fn append<T: Copy>(entries: &mut Vec<T>, entry: T, line: u32) -> Result<(), PlanFault>
-    ensures { Leaves result entries.new.items (appended entries.old.items entry line) }
-{
-    if entries.len() >= MOST {
-        return Err(PlanFault::TooMany(line));
-    }
-    match entries.push(entry) {
-        Ok(()) => Ok(()),
-        Err(_) => Err(PlanFault::Memory),
-    }
-}
-
-fn change_at(changes: &[Change], cycle: u64) -> Option<&Change>
-    ensures { option_map (λ change. change.now) result ≡ change_at changes.now cycle }
-{
-    changes.iter().rev().find(|change| change.cycle <= cycle)
-}
-
-fn follows(changes: &[Change], change: Change) -> bool
-    ensures { result ≡ follows changes.now change }
-{
-    match changes.last() {
-        Some(last) => last.cycle < change.cycle,
-        None => true,
-    }
+    ghost view = { λ p. record { iwaits = p.iwaits.items; dwaits = p.dwaits.items; changes = p.changes; flip = p.flip } };
 }
 
 impl Plan {
@@ -65,7 +38,7 @@ impl Plan {
         Plan {
             iwaits: Vec::new(alloc),
             dwaits: Vec::new(alloc),
-            changes: Vec::new(alloc),
+            changes: Changes::new(alloc),
             flip: None,
         }
     }
@@ -88,10 +61,28 @@ impl Plan {
     pub fn lines(&self, cycle: u64) -> u32
         ensures { result ≡ lines_at self.now.changes cycle }
     {
-        match change_at(&self.changes, cycle) {
-            Some(change) => change.mask,
-            None => 0,
-        }
+        self.lines_over::<Brand>(cycle, Blank::new(1))
+    }
+
+    // The same over a new ledger, whose count nobody reads.
+    fn lines_over<L: Ledger>(&self, cycle: u64, blank: Blank) -> u32
+        requires name { blank.name ≡ L.name }
+        requires parts { blank.parts ≡ L.parts }
+        requires some { 0 < blank.parts }
+        ensures { result ≡ lines_at self.now.changes cycle }
+    {
+        let mut steps = Steps::<L>::new(blank);
+        self.changes.lines(cycle, &mut steps)
+    }
+
+    /// What `lines` gives, with a count of the changes that are looked at, each of which is one step: at
+    /// most as many as the number of changes has binary digits.
+    pub fn lines_counted<L: Ledger>(&self, cycle: u64, steps: &mut Steps<L>) -> u32
+        ensures value { result ≡ lines_at self.now.changes cycle }
+        ensures grows { steps.old ≤ steps.new }
+        ensures probes { 2 ^ (steps.new - steps.old) ≤ 2 * length self.now.changes + 1 }
+    {
+        self.changes.lines(cycle, steps)
     }
 
     /// The flip, if the plan has one.
@@ -101,18 +92,14 @@ impl Plan {
         self.flip
     }
 
-    #[tactic(auto, unfolding(crate::specs::Plan::with_entry))]
+    #[tactic(auto, unfolding(crate::specs::Plan::plan_with_entry))]
     fn add(&mut self, entry: Entry, line: u32, bounds: &Bounds) -> Result<(), PlanFault>
-        ensures { Leaves result self.new (with_entry bounds.now line self.old entry) }
+        ensures { Leaves result self.new (plan_with_entry bounds.now line self.old entry) }
     {
         match entry {
             Entry::Iwait(wait) => append(&mut self.iwaits, wait, line),
             Entry::Dwait(wait) => append(&mut self.dwaits, wait, line),
-            Entry::Irq(change) if follows(&self.changes, change) => append(
-                &mut self.changes,
-                change,
-                line,
-            ),
+            Entry::Irq(change) if self.changes.are_before(change) => self.changes.add(change, line),
             Entry::Irq(_) => Err(PlanFault::Line(line, LineKind::Order)),
             Entry::Flip(flip) if bounds.flips > 0 && self.flip.is_none() => {
                 self.flip = Some(flip);
@@ -132,10 +119,11 @@ impl Plan {
     ) -> Result<(), PlanFault>
         ensures { Leaves result self.new (with_line bounds.now line self.old text.now) }
     {
-        if is_skipped(text) {
+        let words = Words::of(text);
+        if is_skipped(&words) {
             return Ok(());
         }
-        match line_entry(text, bounds) {
+        match line_entry(&words, bounds) {
             Ok(entry) => self.add(entry, line, bounds),
             Err(kind) => Err(PlanFault::Line(line, kind)),
         }

@@ -1,16 +1,10 @@
 ghost use Rattle.std.specs.Prelude.{◌≡◌, ◌<◌, ◌≤◌, IfSome, length, map, slice_index};
 ghost use Rattle.std.specs.List.{position};
 ghost use Rattle.std.specs.Str.{bytes_eq};
-ghost use Rattle.ibx_plan.specs.Names.{fields, wires, outputs, number_in, width_in};
+ghost use Rattle.ibx_plan.specs.Names.{fields, wires, outputs, number_named, width_in};
 
 /// How many fields the core has.
 pub const FIELDS: u8 = 87;
-
-/// How many delayed wires there are, the age of the delayed pairs among them.
-pub const WIRES: u8 = 37;
-
-/// How many words the memories hand to the core.
-pub const OUTPUTS: u8 = 6;
 
 // The name of a part of the machine, and its width in bits.
 type Part = (&'static str, u8);
@@ -174,15 +168,18 @@ fn place(table: &[Part], name: &[u8]) -> Option<u8>
     }
 }
 
+// The width of a part in bits, 0 past the table.
 fn width_at(table: &[Part], number: u8) -> u8
-    requires { number < length table.now }
     ensures { result ≡ slice_index (map (λ part. part.1) table.now) number }
 {
-    table[number as usize].1
+    match table.get(number as usize) {
+        Some(part) => part.1,
+        None => 0,
+    }
 }
 
 pub(crate) fn field_number(name: &[u8]) -> Option<u8>
-    ensures value { result ≡ number_in fields name.now }
+    ensures value { result ≡ number_named fields name.now }
     ensures below { IfSome result (λ field. field < FIELDS) }
 {
     place(&FIELD_TABLE, name)
@@ -190,44 +187,51 @@ pub(crate) fn field_number(name: &[u8]) -> Option<u8>
 
 /// The number of the core's field of this name.
 pub fn field_named(name: &str) -> Option<u8>
-    ensures value { result ≡ number_in fields name.now }
+    ensures value { result ≡ number_named fields name.now }
     ensures below { IfSome result (λ field. field < FIELDS) }
 {
     field_number(name.as_bytes())
 }
 
-/// The width of a field in bits.
+// The width of a field in bits, 0 where there is no such field.
 #[tactic(auto, unfolding(crate::specs::Names::fields))]
-pub fn width(field: u8) -> u8
-    requires { field < FIELDS }
+pub(crate) fn field_width(field: u8) -> u8
     ensures { result ≡ width_in fields field }
 {
     width_at(&FIELD_TABLE, field)
 }
 
+/// The width of a field in bits.
+pub fn width(field: u8) -> u8
+    requires { field < FIELDS }
+    ensures { result ≡ width_in fields field }
+{
+    field_width(field)
+}
+
 pub(crate) fn wire_number(name: &[u8]) -> Option<u8>
-    ensures { result ≡ number_in wires name.now }
+    ensures { result ≡ number_named wires name.now }
 {
     place(&WIRE_TABLE, name)
 }
 
+// The width of a delayed wire in bits, 0 where there is no such wire.
 #[tactic(auto, unfolding(crate::specs::Names::wires))]
 pub(crate) fn wire_width(wire: u8) -> u8
-    requires { wire < WIRES }
     ensures { result ≡ width_in wires wire }
 {
     width_at(&WIRE_TABLE, wire)
 }
 
 pub(crate) fn output_number(name: &[u8]) -> Option<u8>
-    ensures { result ≡ number_in outputs name.now }
+    ensures { result ≡ number_named outputs name.now }
 {
     place(&OUTPUT_TABLE, name)
 }
 
+// The width of a word that the memories hand to the core, 0 where there is no such word.
 #[tactic(auto, unfolding(crate::specs::Names::outputs))]
 pub(crate) fn output_width(wire: u8) -> u8
-    requires { wire < OUTPUTS }
     ensures { result ≡ width_in outputs wire }
 {
     width_at(&OUTPUT_TABLE, wire)

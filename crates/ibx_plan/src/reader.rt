@@ -1,6 +1,6 @@
 ghost use Rattle.std.specs.Prelude.{◌≡◌, ◌<◌, ◌^◌, length, IfOk, IfSome};
 ghost use Rattle.std.specs.Str.Lines.{lines};
-ghost use Rattle.ibx_plan.specs.Plan.{with_lines, plan_of, entries_of, Holds, FlipFits, Answers, Leaves};
+ghost use Rattle.ibx_plan.specs.Plan.{with_lines, plan_of, entries_of, Holds, FlipFits, ReadsPlan, Leaves};
 
 use crate::bounds::{Bounds, PlanFault};
 use crate::lists::Plan;
@@ -25,7 +25,7 @@ fn add_lines(plan: &mut Plan, text: &[u8], bounds: &Bounds) -> Result<(), PlanFa
 #[tactic(auto, unfolding(crate::specs::Plan::plan_of))]
 fn read_plan(alloc: Global, text: &[u8], bounds: &Bounds) -> Result<Plan, PlanFault>
     requires { length text.now < 2 ^ 32 }
-    ensures { Answers result (plan_of bounds.now text.now) }
+    ensures { ReadsPlan result (plan_of bounds.now text.now) }
 {
     let mut plan = Plan::empty(alloc);
     add_lines(&mut plan, text, bounds)?;
@@ -42,7 +42,7 @@ fn read_plan(alloc: Global, text: &[u8], bounds: &Bounds) -> Result<Plan, PlanFa
 /// says nothing. A number is 1 to 10 decimal digits, or `0x` and 1 to 8 hexadecimal digits.
 pub fn read(alloc: Global, text: &[u8], bounds: &Bounds) -> Result<Plan, PlanFault>
     requires { length text.now < 2 ^ 32 }
-    ensures value { Answers result (plan_of bounds.now text.now) }
+    ensures value { ReadsPlan result (plan_of bounds.now text.now) }
     // Each list has the entries of its lines, in their order.
     ensures holds { IfOk result (λ plan. Holds plan (entries_of bounds.now text.now)) }
     // The flip is made in a cycle of the run, at a bit that there is.

@@ -1,10 +1,9 @@
 ghost use Rattle.std.specs.Prelude.{◌≡◌, length};
-ghost use Rattle.ibx_plan.specs.Text.{words};
-ghost use Rattle.ibx_plan.specs.Line.{flip_row, named, target_of, row_of, is_skipped, are_numbers, site_places, places};
+ghost use Rattle.ibx_plan.specs.Line.{flip_row, named, target_of, row_of, is_skipped, are_numbers, site_places, number_places};
 
 use crate::names::{field_number, output_number, wire_number};
 use crate::number::is_number;
-use crate::text::{word, word_count};
+use crate::text::Words;
 
 /// What kind of site a flip's line names.
 #[derive(Clone, Copy)]
@@ -44,10 +43,10 @@ pub enum Row {
 }
 
 // Whether a line says nothing: it is empty, or a comment.
-pub(crate) fn is_skipped(line: &[u8]) -> bool
-    ensures { result ≡ is_skipped (words line.now) }
+pub(crate) fn is_skipped(words: &Words) -> bool
+    ensures { result ≡ is_skipped words.now }
 {
-    word_count(line) == 0 || word(line, 0).starts_with(b"#")
+    words.len() == 0 || words.at(0).starts_with(b"#")
 }
 
 // The kind of site that a word names, and how many words such a line has.
@@ -79,41 +78,41 @@ fn flip_row(name: &[u8]) -> Option<(Kind, usize)>
 }
 
 #[tactic(auto, unfolding(crate::specs::Line::named))]
-fn named(kind: Kind, line: &[u8]) -> Option<Target>
-    ensures { result ≡ named kind (words line.now) }
+fn named(kind: Kind, words: &Words) -> Option<Target>
+    ensures { result ≡ named kind words.now }
 {
     match kind {
-        Kind::Main => field_number(word(line, 3)).map(Target::Main),
-        Kind::Shadow => field_number(word(line, 3)).map(Target::Shadow),
-        Kind::Delay => wire_number(word(line, 4)).map(Target::Delay),
+        Kind::Main => field_number(words.at(3)).map(Target::Main),
+        Kind::Shadow => field_number(words.at(3)).map(Target::Shadow),
+        Kind::Delay => wire_number(words.at(4)).map(Target::Delay),
         Kind::Reg => Some(Target::Reg),
         Kind::Tag => Some(Target::Tag),
         Kind::Line => Some(Target::Line),
-        Kind::Output => output_number(word(line, 3)).map(Target::Output),
+        Kind::Output => output_number(words.at(3)).map(Target::Output),
         Kind::Answer => Some(Target::Answer),
         Kind::Mem => Some(Target::Mem),
     }
 }
 
 #[tactic(auto, unfolding(crate::specs::Line::target_of))]
-fn target_of(line: &[u8]) -> Option<Target>
-    ensures { result ≡ target_of (words line.now) }
+fn target_of(words: &Words) -> Option<Target>
+    ensures { result ≡ target_of words.now }
 {
-    match flip_row(word(line, 2)) {
-        Some((kind, count)) if word_count(line) == count => named(kind, line),
+    match flip_row(words.at(2)) {
+        Some((kind, count)) if words.len() == count => named(kind, words),
         _ => None,
     }
 }
 
 // What the words and names of a line say, `None` where they fit no row.
 #[tactic(auto, unfolding(crate::specs::Line::row_of, crate::specs::Line::short_rows))]
-pub(crate) fn row_of(line: &[u8]) -> Option<Row>
-    ensures { result ≡ row_of (words line.now) }
+pub(crate) fn row_of(words: &Words) -> Option<Row>
+    ensures { result ≡ row_of words.now }
 {
-    let first = word(line, 0);
+    let first = words.at(0);
     if first == b"flip".as_slice() {
-        target_of(line).map(Row::Flip)
-    } else if word_count(line) != 3 {
+        target_of(words).map(Row::Flip)
+    } else if words.len() != 3 {
         None
     } else if first == b"iwait".as_slice() {
         Some(Row::Iwait)
@@ -127,27 +126,27 @@ pub(crate) fn row_of(line: &[u8]) -> Option<Row>
 }
 
 #[tactic(auto, unfolding(crate::specs::Line::site_places))]
-fn are_site_numbers(line: &[u8], target: Target) -> bool
-    ensures { result ≡ are_numbers (words line.now) (site_places target) }
+fn are_site_numbers(words: &Words, target: Target) -> bool
+    ensures { result ≡ are_numbers words.now (site_places target) }
 {
     match target {
-        Target::Main(_) | Target::Shadow(_) | Target::Output(_) => is_number(line, 4),
-        Target::Delay(_) => is_number(line, 3) && is_number(line, 5),
-        Target::Reg | Target::Answer | Target::Mem => is_number(line, 3) && is_number(line, 4),
-        Target::Tag => is_number(line, 3) && is_number(line, 4) && is_number(line, 5),
+        Target::Main(_) | Target::Shadow(_) | Target::Output(_) => is_number(words, 4),
+        Target::Delay(_) => is_number(words, 3) && is_number(words, 5),
+        Target::Reg | Target::Answer | Target::Mem => is_number(words, 3) && is_number(words, 4),
+        Target::Tag => is_number(words, 3) && is_number(words, 4) && is_number(words, 5),
         Target::Line => {
-            is_number(line, 3) && is_number(line, 4) && is_number(line, 5) && is_number(line, 6)
+            is_number(words, 3) && is_number(words, 4) && is_number(words, 5) && is_number(words, 6)
         }
     }
 }
 
 // Whether each word in a number's place is a number.
-#[tactic(auto, unfolding(crate::specs::Line::places))]
-pub(crate) fn are_numbers(line: &[u8], row: Row) -> bool
-    ensures { result ≡ are_numbers (words line.now) (places row) }
+#[tactic(auto, unfolding(crate::specs::Line::number_places))]
+pub(crate) fn are_numbers(words: &Words, row: Row) -> bool
+    ensures { result ≡ are_numbers words.now (number_places row) }
 {
     match row {
-        Row::Iwait | Row::Dwait | Row::Irq => is_number(line, 1) && is_number(line, 2),
-        Row::Flip(target) => is_number(line, 1) && are_site_numbers(line, target),
+        Row::Iwait | Row::Dwait | Row::Irq => is_number(words, 1) && is_number(words, 2),
+        Row::Flip(target) => is_number(words, 1) && are_site_numbers(words, target),
     }
 }

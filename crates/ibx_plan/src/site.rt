@@ -1,4 +1,4 @@
-use crate::names::{FIELDS, OUTPUTS, WIRES, output_width, width, wire_width};
+use crate::names::{field_width, output_width, wire_width};
 
 /// The waits of one bus transaction, in cycles: `grant` cycles from its first request to its grant, and
 /// `answer` further cycles from the cycle after the grant to its answer. Each is from 0 to 255.
@@ -33,32 +33,37 @@ pub enum Site {
     Mem { word: u32, bit: u8 },
 }
 
+// How many bits a stored word has.
+const WORD_BITS: u8 = 39;
+
+// How many bits a tag word has.
+const TAG_BITS: u8 = 28;
+
+// The age of the delayed pairs, which has slot 0 alone.
+const AGE: u8 = 36;
+
 impl Site {
     ghost use Rattle.std.specs.Prelude.{◌≡◌};
     ghost use Rattle.ibx_plan.specs.Sites.{site_fits};
 
-    // The age of the delayed pairs, which has slot 0 alone.
-    pub(crate) const AGE: u8 = 36;
-
-    /// Whether there is such a bit in a machine with so many words of RAM.
-    #[tactic(auto, unfolding(crate::specs::Sites::site_fits))]
+    /// Whether there is such a bit in a machine with so many words of RAM. The set of a tag word or a data
+    /// word is from 0 to 255, as its type says.
+    #[tactic(auto, unfolding(crate::specs::Sites::site_fits, crate::specs::Sites::ranges))]
     pub fn fits(self, ram_words: u32) -> bool
         ensures { result ≡ site_fits ram_words self }
     {
         match self {
-            Site::Main { field, bit } | Site::Shadow { field, bit } => {
-                field < FIELDS && bit < width(field)
-            }
+            Site::Main { field, bit } | Site::Shadow { field, bit } => bit < field_width(field),
             Site::Delay { slot, wire, bit } => {
-                let last_slot = if wire == Site::AGE { 0 } else { 1 };
-                wire < WIRES && slot <= last_slot && bit < wire_width(wire)
+                let slots = if wire == AGE { 1 } else { 2 };
+                slot < slots && bit < wire_width(wire)
             }
-            Site::Reg { n, bit } => 1 <= n && n <= 31 && bit <= 38,
-            Site::Tag { way, bit, .. } => way <= 1 && bit <= 27,
-            Site::Line { way, half, bit, .. } => way <= 1 && half <= 1 && bit <= 38,
-            Site::Output { wire, bit } => wire < OUTPUTS && bit < output_width(wire),
-            Site::Answer { port, bit } => port <= 1 && bit <= 38,
-            Site::Mem { word, bit } => word < ram_words && bit <= 38,
+            Site::Reg { n, bit } => 1 <= n && n < 32 && bit < WORD_BITS,
+            Site::Tag { way, bit, .. } => way < 2 && bit < TAG_BITS,
+            Site::Line { way, half, bit, .. } => way < 2 && half < 2 && bit < WORD_BITS,
+            Site::Output { wire, bit } => bit < output_width(wire),
+            Site::Answer { port, bit } => port < 2 && bit < WORD_BITS,
+            Site::Mem { word, bit } => word < ram_words && bit < WORD_BITS,
         }
     }
 }

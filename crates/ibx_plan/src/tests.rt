@@ -1,7 +1,11 @@
+ghost use Rattle.std.specs.Prelude.{◌≡◌, ◌<◌};
+
 use crate::{
-    Bounds, FIELDS, Flip, LineKind, Plan, PlanFault, Site, Wait, field_named, read, width,
+    Bounds, FIELDS, Flip, LineKind, Plan, PlanFault, Site, Steps, Wait, field_named, read, width,
 };
 use std::alloc::{AllocError, Global};
+use std::marker::Brand;
+use std::sync::ledger::{Blank, Ledger};
 use std::test::Fail;
 
 // A run of 1,000 cycles over 1 MiB of RAM.
@@ -216,7 +220,7 @@ fn flips() -> &'static [(&'static str, Site)] {
 }
 
 // The flip of a text that is accepted.
-fn flip_of(alloc: Global, text: &str) -> Option<Flip> {
+fn accepted_flip(alloc: Global, text: &str) -> Option<Flip> {
     if text.len() > 1_000_000 {
         return None;
     }
@@ -251,7 +255,7 @@ fn accepted_texts(rt: HostRuntime) -> Result<(), Fail> {
             cycle: 999,
             site: row.1,
         };
-        assert!(rt; flip_of(rt.alloc(), row.0) == Some(flip), "{}", row.0);
+        assert!(rt; accepted_flip(rt.alloc(), row.0) == Some(flip), "{}", row.0);
         assert!(rt; row.1.fits(262_144), "{}", row.0);
     }
     let plan = lists(rt.alloc()).ok_or("refused")?;
@@ -275,6 +279,50 @@ fn accepted_texts(rt: HostRuntime) -> Result<(), Fail> {
         assert_eq!(rt; plan.lines(row.0), row.1);
     }
     assert!(rt; plan.flip().is_none());
+    Ok(())
+}
+
+// The lines of each cycle below a count: 8 in the odd ones.
+fn alternating(alloc: Global, count: u32) -> Result<String, AllocError> {
+    let mut text = String::new(alloc);
+    for cycle in 0..count {
+        let mask = if cycle % 2 == 1 { 8 } else { 0 };
+        let line = format!(in alloc; "irq {cycle} {mask}\n")?;
+        text.push_str(line.as_str())?;
+    }
+    Ok(text)
+}
+
+fn full(alloc: Global) -> Option<Plan> {
+    let text = alternating(alloc, 65_536).ok()?;
+    if text.len() > 2_000_000 {
+        return None;
+    }
+    read(alloc, text.as_bytes(), &bounds(0)).ok()
+}
+
+fn counted<L: Ledger>(plan: &Plan, cycle: u64, blank: Blank) -> u32
+    requires name { blank.name ≡ L.name }
+    requires parts { blank.parts ≡ L.parts }
+    requires some { 0 < blank.parts }
+{
+    let mut steps = Steps::<L>::new(blank);
+    plan.lines_counted(cycle, &mut steps)
+}
+
+static FULL_ROWS: [(u64, u32); 3] = [(65_535, 8), (65_536, 8), (40_000, 0)];
+
+fn full_rows() -> &'static [(u64, u32)] {
+    &FULL_ROWS
+}
+
+#[test]
+fn lines_of_a_full_list(rt: HostRuntime) -> Result<(), Fail> {
+    let plan = full(rt.alloc()).ok_or("refused")?;
+    for row in full_rows() {
+        assert_eq!(rt; plan.lines(row.0), row.1);
+        assert_eq!(rt; counted::<Brand>(&plan, row.0, Blank::new(1)), row.1);
+    }
     Ok(())
 }
 

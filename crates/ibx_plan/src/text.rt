@@ -1,8 +1,27 @@
-ghost use Rattle.std.specs.Prelude.{◌≡◌, ◌<◌, ◌≤◌, ◌∷◌, ◌==◌, ℕ, IfSome, length, slice_get};
+ghost use Rattle.std.specs.Prelude.{◌≡◌, ◌+◌, ◌<◌, ◌≤◌, ◌∷◌, ◌++◌, ◌==◌, [], ℕ, List, IfSome, length, map, take};
 ghost use Rattle.std.specs.List.{position};
-ghost use Rattle.std.specs.Option.{option_map};
 ghost use Rattle.std.specs.Str.Lines.{lines, strip_carriage_return};
-ghost use Rattle.ibx_plan.specs.Text.{is_blank, words, word};
+ghost use Rattle.ibx_plan.specs.Text.{is_blank, first_words, word};
+
+use std::marker::Model;
+
+// One more than the longest row has.
+const MOST: usize = 8;
+
+// The words of a line, without those past the eighth.
+#[derive(Drop)]
+pub(crate) struct Words<'a> {
+    first: [&'a [u8]; MOST],
+    count: usize,
+}
+
+impl<'a> Model for Words<'a> {
+    ghost Value = { List (List ℕ) };
+
+    ghost view = { λ w. map (λ x. x.now) (take w.count w.first) };
+
+    ghost invariant = { λ w. w.count ≤ 8 };
+}
 
 fn is_blank(byte: u8) -> bool
     ensures { result ≡ is_blank byte }
@@ -10,31 +29,54 @@ fn is_blank(byte: u8) -> bool
     byte == b' ' || byte == b'\t'
 }
 
-// How many words a line has.
-#[tactic(auto, unfolding(crate::specs::Text::words))]
-pub(crate) fn word_count(line: &[u8]) -> usize
-    ensures { result ≡ length (words line.now) }
-{
-    line.split(|byte| is_blank(*byte))
-        .filter(|part| !part.is_empty())
-        .count()
-}
+impl<'a> Words<'a> {
+    fn new() -> Words<'a>
+        ensures { result ≡ [] }
+    {
+        Words {
+            first: [&[]; MOST],
+            count: 0,
+        }
+    }
 
-fn find_word(line: &[u8], index: usize) -> Option<&[u8]>
-    ensures { option_map (λ found. found.now) result ≡ slice_get (words line.now) index }
-{
-    line.split(|byte| is_blank(*byte))
-        .filter(|part| !part.is_empty())
-        .nth(index)
-}
+    fn add(&mut self, word: &'a [u8])
+        requires { length self.old < 8 }
+        ensures { self.new ≡ self.old ++ word.now ∷ [] }
+    {
+        self.first[self.count] = word;
+        self.count += 1;
+    }
 
-// The word at an index, empty where the line has no such word.
-pub(crate) fn word(line: &[u8], index: usize) -> &[u8]
-    ensures { result.now ≡ word (words line.now) index }
-{
-    match find_word(line, index) {
-        Some(found) => found,
-        None => &[],
+    // The words of a line, parted by spaces and tabs.
+    pub(crate) fn of(line: &'a [u8]) -> Words<'a>
+        ensures { result ≡ first_words line.now }
+    {
+        let mut words = Words::new();
+        let parts = line.split(|byte| is_blank(*byte));
+        for word in parts.filter(|part| !part.is_empty()) {
+            if words.len() == MOST {
+                return words;
+            }
+            words.add(word);
+        }
+        words
+    }
+
+    pub(crate) fn len(&self) -> usize
+        ensures { result ≡ length self.now }
+    {
+        self.count
+    }
+
+    // The word at an index, empty where the line has no such word.
+    pub(crate) fn at(&self, index: usize) -> &'a [u8]
+        ensures { result.now ≡ word self.now index }
+    {
+        if index < self.count {
+            self.first[index]
+        } else {
+            &[]
+        }
     }
 }
 

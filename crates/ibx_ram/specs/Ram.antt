@@ -19,7 +19,7 @@ abbrev pub register_flip : List ℕ → ℕ → ℕ → List ℕ
 register_flip words n bit = if n == 0 then words else flip_of words n bit
 
 -- words of one code, of at most 32 payload bits
-pub record IsRam (payload_bits height : ℕ) (words : List ℕ) : Type 0 where
+pub record IsCodedRam (payload_bits height : ℕ) (words : List ℕ) : Type 0 where
   pub code : IsCode payload_bits height
   pub payload : payload_bits ≤ 32
   pub fits : All (λ w. w < 2 ^ (payload_bits + height)) words

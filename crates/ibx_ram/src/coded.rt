@@ -2,7 +2,6 @@ ghost use Rattle.std.specs.Prelude.{◌≡◌, ◌≢◌, ◌<◌, ◌≤◌, �
 ghost use Rattle.ibx_secded.specs.Code.{IsCode};
 ghost use Rattle.ibx_ram.specs.Ram.{empty_of, flip_of};
 
-use crate::with_flip;
 use ibx_base::NoMemory;
 use ibx_secded::Code;
 use std::alloc::Global;
@@ -16,13 +15,13 @@ pub struct CodedRam<const K: usize, const R: usize> {
 
 impl<const K: usize, const R: usize> Model for CodedRam<K, R> {
     ghost use Rattle.std.specs.Prelude.{List, ℕ};
-    ghost use Rattle.ibx_ram.specs.Ram.{IsRam};
+    ghost use Rattle.ibx_ram.specs.Ram.{IsCodedRam};
 
     ghost Value = { List ℕ };
 
     ghost view = { λ ram. ram.words.items };
 
-    ghost invariant = { λ ram. IsRam K R ram.words.items };
+    ghost invariant = { λ ram. IsCodedRam K R ram.words.items };
 }
 
 impl<const K: usize, const R: usize> CodedRam<K, R> {
@@ -66,7 +65,7 @@ impl<const K: usize, const R: usize> CodedRam<K, R> {
         ensures here { slice_index self.new i ≡ bit_xor (slice_index self.old i) (2 ^ bit) }
         ensures others { (j : ℕ) → j ≢ i → slice_index self.new j ≡ slice_index self.old j }
     {
-        let changed = with_flip(self.words[i as usize], bit);
+        let changed = Code::<K, R>::flip(self.words[i as usize], bit);
         self.words[i as usize] = changed;
     }
 }

@@ -6,20 +6,8 @@
 mod coded;
 mod registers;
 
-ghost use Rattle.std.specs.Prelude.{◌≡◌, ◌<◌, ◌^◌, ℕ, bit_xor};
-
 pub use coded::CodedRam;
 pub use registers::RegFile;
-
-/// A word with one bit changed.
-#[tactic(auto, using(crate::proofs::Flips::changes))]
-fn with_flip(word: u64, bit: u8) -> u64
-    requires { bit < 64 }
-    ensures value { result ≡ bit_xor word (2 ^ bit) }
-    ensures fits { (n : ℕ) → word < 2 ^ n → bit < n → result < 2 ^ n }
-{
-    word ^ (1 << bit)
-}
 
 #[cfg(test)]
 mod tests {

@@ -2,7 +2,6 @@ ghost use Rattle.std.specs.Prelude.{◌≡◌, ◌≢◌, ◌<◌, ◌^◌, ℕ,
 ghost use Rattle.ibx_secded.specs.Code.{encode_of};
 ghost use Rattle.ibx_ram.specs.Ram.{empty_of, register_put, register_flip};
 
-use crate::with_flip;
 use ibx_base::NoMemory;
 use ibx_secded::Code;
 use std::alloc::Global;
@@ -67,7 +66,7 @@ impl RegFile {
         ensures others { (m : ℕ) → m ≢ n → slice_index self.new m ≡ slice_index self.old m }
         ensures zero { n ≡ 0 → self.new ≡ self.old }
     {
-        let changed = with_flip(self.get(n), bit);
+        let changed = Code::<32, 7>::flip(self.get(n), bit);
         self.put(n, changed);
     }
 }

@@ -153,6 +153,18 @@ impl<const K: usize, const R: usize> Code<K, R> {
         let stored = Self::syndrome(old) ^ constant(R) ^ Self::plain_check(value);
         Self::join(stored, value)
     }
+
+    /// The word with bit `bit` changed.
+    #[tactic(auto, using(crate::proofs::Flips::flips))]
+    pub fn flip(word: u64, bit: u8) -> u64
+        requires code { IsCode K R }
+        requires bit { bit < K + R }
+        requires fits { word < 2 ^ (K + R) }
+        ensures value { result ≡ bit_xor word (2 ^ bit) }
+        ensures fits { result < 2 ^ (K + R) }
+    {
+        word ^ (1 << bit)
+    }
 }
 
 #[cfg(test)]
@@ -175,6 +187,7 @@ mod tests {
             0x2d_0100_0001
         );
         assert_eq!(rt; Code::<32, 7>::payload(0x2d_0100_0001), 0x0100_0001);
+        assert_eq!(rt; Code::<32, 7>::flip(0x2d_0000_0001, 38), 0x6d_0000_0001);
         assert_eq!(rt; Code::<22, 6>::encode(0), 0xa80_0000);
     }
 }

@@ -33,24 +33,3 @@ line_of (Irq cycle pc cause) = heading (codes "I ") cycle pc ++ codes " cause=" 
 unfoldable pub end_line_of : Bool → ℕ → ℕ → List ℕ
 end_line_of halted cycles events =
     (if halted then codes "E halt " else codes "E budget ") ++ decimal cycles ++ codes " " ++ decimal events ++ codes "\n"
-
--- the register that an event changed, or 0 for none
-abbrev pub register_of : Event → ℕ
-register_of (Retire cycle pc word rd value mem ctl ops) = rd
-register_of _ = 0
-
--- the instruction that an event carries, or 0 for none
-abbrev pub word_of : Event → ℕ
-word_of (Retire cycle pc word rd value mem ctl ops) = word
-word_of (Trap cycle pc word cause tval addr) = word
-word_of (Irq cycle pc cause) = 0
-
--- the access is a store
-abbrev pub IsStore : Option Access → Type 0
-IsStore None = ⊥
-IsStore (Some access) = IsTrue access.store
-
--- the event is a store that retired
-abbrev pub Stores : Event → Type 0
-Stores (Retire cycle pc word rd value mem ctl ops) = IsStore mem
-Stores _ = ⊥

@@ -1,7 +1,8 @@
 //! The line of an event, and the last line of a run.
 ghost use Rattle.std.specs.Prelude.{◌≡◌, ◌≢◌, ◌+◌, ◌%◌, ◌^◌, ◌<◌, ◌≤◌, ◌++◌, length};
 ghost use Rattle.arrayvec.specs.ArrayString.{array_string_len};
-ghost use Rattle.ibx_trace.specs.Lines.{heading, register_text, store_text, line_of, end_line_of, register_of, word_of, Stores};
+ghost use Rattle.ibx_trace.specs.Lines.{heading, register_text, store_text, line_of, end_line_of};
+ghost use Rattle.ibx_isa.specs.Events.{IsPrintable};
 
 use crate::digits::{Line, push_hex, push_number, push_two_digits, push_word};
 use arrayvec::ArrayString;
@@ -69,9 +70,7 @@ fn push_store(text: &mut Line, access: Option<Access>)
 /// The register is below 32, and 0 for a store. An instruction whose bits 1:0 aren't both 1 is a halfword.
 #[tactic(auto, unfolding(crate::specs::Lines::line_of))]
 pub fn line(e: &Event) -> ArrayString<96>
-    requires register { register_of e.now < 32 }
-    requires store { Stores e.now → register_of e.now ≡ 0 }
-    requires halfword { word_of e.now % 4 ≢ 3 → word_of e.now < 2 ^ 16 }
+    requires { IsPrintable e.now }
     ensures { result.bytes ≡ line_of e.now }
 {
     match *e {

@@ -1,6 +1,7 @@
 //! The line of a view.
 ghost use Rattle.std.specs.Prelude.{◌≡◌, ◌≢◌, ◌+◌, ◌%◌, ◌^◌, ◌<◌, ◌≤◌, ◌++◌, ◌⊎◌, length, IsSome};
 ghost use Rattle.arrayvec.specs.ArrayString.{array_string_len};
+ghost use Rattle.ibx_isa.specs.Lengths.{IsWordOrHalf};
 ghost use Rattle.ibx_trace.specs.ViewLines.{view_heading, part_text, operands_text, retirement_text, trap_text, interrupt_text, view_line_of};
 
 use crate::digits::{Line, push_hex, push_number, push_word};
@@ -103,7 +104,7 @@ fn interrupt_line(v: &View) -> Line
 #[tactic(auto, unfolding(crate::specs::ViewLines::view_line_of))]
 pub fn view_line(v: &View) -> ArrayString<96>
     requires kind { v.now.kind ≤ 2 }
-    requires halfword { v.now.word % 4 ≢ 3 → v.now.word < 2 ^ 16 }
+    requires halfword { IsWordOrHalf v.now.word }
     requires address { v.now.kind ≡ 1 → (v.now.cause ≡ 5) ⊎ (v.now.cause ≡ 7) → IsSome v.now.addr }
     ensures { result.bytes ≡ view_line_of v.now }
 {

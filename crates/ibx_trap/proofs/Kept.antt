@@ -3,12 +3,13 @@ use Rattle.std.proofs.Common.{◌≡◌, ℕ, ◌+◌, ◌-◌, ◌%◌, ◌^◌
 use Rattle.std.specs.Prelude.{bit_and, bit_or, ◌&&◌, if◌then◌else◌}
 use Rattle.std.proofs.lemmas.Nat.{and_or_apart, and_assoc, or_lt, and_le_l}
 use Rattle.ibx_isa.specs.declared.trap.TrapRegs.{TrapRegs}
-use Rattle.ibx_trap.specs.Bits.{set_if, cleared, has_some, has_all, mie_bit, mpie_bit, mpp_bits, mprv_bit, sync_exc_seen, double_fault_seen}
+use Rattle.ibx_isa.specs.ControlBits.{mie_bit, mpie_bit, mpp_bits, mprv_bit, tw_bit, sync_exc_seen, double_fault_seen}
+use Rattle.ibx_trap.specs.Bits.{set_if, cleared, has_some, has_all}
 use Rattle.ibx_trap.specs.Traps.{entered_mstatus, left_mstatus, excepted, enter_of, leave_of, IsKept}
 
 -- the bits of mstatus that a write doesn't keep
 abbrev other_bits : ℕ
-other_bits = 2 ^ 32 - 1 - 0x00221888
+other_bits = 2 ^ 32 - 1 - (mie_bit + mpie_bit + mpp_bits + mprv_bit + tw_bit)
 
 -- bits that are kept add none
 set-kept : (b : Bool) (m bits : ℕ) → bit_and bits other_bits ≡ 0 → bit_and (set_if b m bits) other_bits ≡ bit_and m other_bits

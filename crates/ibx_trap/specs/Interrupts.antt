@@ -1,6 +1,7 @@
 -- Which interrupt is taken (Privileged ISA 1.12, 3.1.6.1 and 3.1.9).
 use Rattle.std.specs.Prelude.{ℕ, Bool, not, ◌&&◌, List, [], ◌∷◌, Option, None, find, bit_and, if◌then◌else◌}
-use Rattle.ibx_trap.specs.Bits.{mie_bit, has_some, bit_of}
+use Rattle.ibx_isa.specs.ControlBits.{mie_bit}
+use Rattle.ibx_trap.specs.Bits.{has_some, bit_of}
 
 -- The interrupts, the one that is taken first in front: the fast ones (our own order), external, software
 -- and timer.

@@ -1,7 +1,8 @@
 -- What a trap and a return from it do to the registers.
 use Rattle.std.specs.Prelude.{◌≡◌, ◌<◌, ◌-◌, bit_and, ℕ, ◌+◌, ◌*◌, ◌%◌, ◌^◌, Bool, true, ◌&&◌, if◌then◌else◌}
 use Rattle.ibx_isa.specs.declared.trap.TrapRegs.{TrapRegs}
-use Rattle.ibx_trap.specs.Bits.{mie_bit, mpie_bit, mpp_bits, mprv_bit, sync_exc_seen, double_fault_seen, has_some, has_all, cleared, set, set_if}
+use Rattle.ibx_isa.specs.ControlBits.{mie_bit, mpie_bit, mpp_bits, mprv_bit, tw_bit, sync_exc_seen, double_fault_seen}
+use Rattle.ibx_trap.specs.Bits.{has_some, has_all, cleared, set, set_if}
 
 -- A trap from a mode (Privileged ISA 1.12, 3.1.6.1): MPIE takes MIE, MIE becomes 0, MPP takes the mode.
 abbrev pub entered_mstatus : ℕ → Bool → ℕ
@@ -44,10 +45,10 @@ leave_of r = let machine = has_all r.mstatus mpp_bits in record r {
   cpuctrl = cleared r.cpuctrl sync_exc_seen;
 }
 
--- registers that have no bit that a write doesn't keep: mstatus 00221888, mtvec a multiple of 256 and 1,
+-- registers that have no bit that a write doesn't keep: mstatus those of its five fields, mtvec a multiple of 256 and 1,
 -- mepc even, mcause bits 31 and 4:0, cpuctrl 8 bits
 pub record IsKept (r : TrapRegs) : Type 0 where
-  pub mstatus : bit_and r.mstatus (2 ^ 32 - 1 - 0x00221888) ≡ 0
+  pub mstatus : bit_and r.mstatus (2 ^ 32 - 1 - (mie_bit + mpie_bit + mpp_bits + mprv_bit + tw_bit)) ≡ 0
   pub mtvec : r.mtvec % 256 ≡ 1
   pub mepc : r.mepc % 2 ≡ 0
   pub mcause : r.mcause % 2 ^ 31 < 32

@@ -2,7 +2,7 @@ ghost use Rattle.std.specs.Prelude.{◌≡◌, find};
 ghost use Rattle.ibx_trap.specs.Bits.{bit_of};
 ghost use Rattle.ibx_trap.specs.Interrupts.{pending_of, order};
 
-use crate::trap::MIE;
+use ibx_isa::control::MIE;
 
 /// The numbers of the interrupts, the one that is taken first in front: the fast interrupts (our own
 /// order), external, software, timer (RISC-V Privileged ISA 1.12, 3.1.9).

@@ -2,21 +2,7 @@ ghost use Rattle.std.specs.Prelude.{◌≡◌, ◌<◌, ◌%◌};
 ghost use Rattle.ibx_trap.specs.Traps.{enter_of, enter_target, leave_of, entered_mstatus, left_mstatus, excepted, IsKept};
 
 use ibx_isa::TrapRegs;
-
-// Bits of mstatus (RISC-V Privileged ISA 1.12, 3.1.6): whether interrupts are enabled, the value of that
-// bit and the mode before the trap, and whether loads and stores use that mode.
-pub(crate) const MIE: u32 = 0x8;
-
-const MPIE: u32 = 0x80;
-
-const MPP: u32 = 0x1800;
-
-const MPRV: u32 = 0x2_0000;
-
-// Bits of cpuctrl: an exception was taken since the last return, and another one in its handler.
-const SYNC_EXC_SEEN: u32 = 0x40;
-
-const DOUBLE_FAULT_SEEN: u32 = 0x80;
+use ibx_isa::control::{DOUBLE_FAULT_SEEN, MIE, MPIE, MPP, MPRV, SYNC_EXC_SEEN};
 
 /// The registers after a trap, and the byte address of its handler.
 ///

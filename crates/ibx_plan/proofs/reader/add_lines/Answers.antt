@@ -1,6 +1,6 @@
 use Rattle.std.proofs.Common.{◌≡◌, ◌+◌, ◌∙◌, length, arith}
 use Rattle.std.proofs.lemmas.Result.{err_from_is_err_and}
-use Rattle.ibx_plan.proofs.Steps.{one_line, refused, at_end}
+use Rattle.ibx_plan.proofs.OneLine.{one_line, refused, at_end}
 use Rattle.ibx_plan.proofs.reader.add_lines.Goals as goal
 
 pub returns-in_err-add_line : goal.returns-in_err-add_line

@@ -1,6 +1,6 @@
 use Rattle.std.proofs.Common.{◌≡◌, ◌+◌, arith, sym, ap, ◌∙◌}
-use Rattle.ibx_elf.specs.Image.{byte_of, image_of, placed_byte}
-use Rattle.ibx_elf.proofs.FourBytes.{four_bytes}
+use Rattle.ibx_elf.specs.Image.{image_byte, image_of, placed_byte}
+use Rattle.ibx_bits.proofs.Bytes.{four_bytes}
 use Rattle.ibx_elf.proofs.Laws.{byte_of-image_of, readable}
 use Rattle.ibx_elf.proofs.image.Image.word.Goals as goal
 
@@ -38,6 +38,6 @@ returns-clause-bytes c =
     let at_3 = byte_of-image_of file ram (c.args.addr + 3) read in
     let start : placed_byte file (c.args.addr + 0) ≡ placed_byte file c.args.addr = ap (placed_byte file) (omega arith) in
     rw (← c.self.view_is)
-    (four_bytes (λ k. byte_of (image_of file ram) (c.args.addr + k)) c.byte_at.result c.byte_at-2.result c.byte_at-3.result c.byte_at-4.result c.from_le_bytes.result
+    (four_bytes (λ k. image_byte (image_of file ram) (c.args.addr + k)) c.byte_at.result c.byte_at-2.result c.byte_at-3.result c.byte_at-4.result c.from_le_bytes.result
     (c.byte_at.ensures ∙ sym start ∙ sym at_0) (c.byte_at-2.ensures ∙ sym at_1) (c.byte_at-3.ensures ∙ sym at_2) (c.byte_at-4.ensures ∙ sym at_3)
     c.byte_at.type_inv c.byte_at-2.type_inv c.byte_at-3.type_inv c.byte_at-4.type_inv c.from_le_bytes.ensures)
