@@ -1,5 +1,5 @@
 -- What each instruction does (Unprivileged ISA, 2.4 to 2.8, 7 and 9; Privileged ISA 1.12, 3.3).
-use Rattle.std.specs.Prelude.{ℕ, ◌+◌, ◌*◌, ◌/◌, ◌%◌, ◌^◌, Bool, true, false, not, ◌||◌, ◌==◌, if◌then◌else◌, Option, Some, None, bit_and}
+use Rattle.std.specs.Prelude.{ℕ, ◌+◌, ◌*◌, ◌/◌, ◌%◌, ◌^◌, true, false, not, if◌then◌else◌, Option, Some, None}
 use Rattle.ibx_isa.specs.declared.insn.Insn.{Insn}
 use Rattle.ibx_isa.specs.declared.insn.Insn.TheVariants.{Lui, Auipc, Jal, Jalr, Branch, Load, Store, AluImm, Alu, MulDiv, Csr, Fence, FenceI, Ecall, Ebreak, Mret, Wfi}
 use Rattle.ibx_isa.specs.declared.insn.LoadOp.{LoadOp}
@@ -7,7 +7,7 @@ use Rattle.ibx_isa.specs.declared.insn.CsrOp.{CsrOp}
 use Rattle.ibx_isa.specs.Alu.{alu_of, branch_of}
 use Rattle.ibx_isa.specs.Multiply.{md_value}
 use Rattle.ibx_csr.specs.Values.{CsrValues, csr_read, csr_can_write, csr_write, csr_tick, trap_regs, with_trap_regs}
-use Rattle.ibx_lsu.specs.Portions.{loaded, size_of}
+use Rattle.ibx_isa.specs.Portions.{loaded, size_of}
 use Rattle.ibx_pmp.specs.declared.protection.AccessKind.TheVariants.{Read, Write}
 use Rattle.ibx_trap.specs.Traps.{leave_of}
 use Rattle.ibx_arch.specs.declared.done.Done.{Done}
@@ -15,7 +15,10 @@ use Rattle.ibx_arch.specs.declared.done.Done.TheVariants.{Retires, Traps}
 use Rattle.ibx_arch.specs.Memory.{Memory, read_bytes}
 use Rattle.ibx_arch.specs.State.{State, reg}
 use Rattle.ibx_arch.specs.Access.{refused_at, error_at, stored}
-use Rattle.ibx_arch.specs.Csr.{writes, written, is_control}
+use Rattle.ibx_isa.specs.CsrWrites.{writes, written}
+use Rattle.ibx_csr.specs.Modes.{may_wait}
+use Rattle.ibx_isa.specs.Causes.{illegal_instruction, breakpoint, load_fault, store_fault, user_call, machine_call}
+use Rattle.ibx_csr.specs.Bits.{is_control_at}
 
 -- how an instruction ends, and the memory and the CSRs that it leaves, with the counters moved by one cycle
 pub record Executed : Type 0 where
@@ -37,15 +40,15 @@ trap s cause tval addr = record { done = Traps cause tval addr; memory = s.memor
 
 -- cause 2, with the word as `mtval`
 abbrev pub illegal : State → ℕ → Executed
-illegal s word = trap s 2 word 0
+illegal s word = trap s illegal_instruction word 0
 
 -- the address of the instruction that follows
 abbrev pub following : State → ℕ → ℕ
 following s length = (s.pc + length) % 2 ^ 32
 
 abbrev pub load_with : State → LoadOp → ℕ → ℕ → ℕ → Option ℕ → Option ℕ → Executed
-load_with s op rd addr next (Some at) error = trap s 5 at addr
-load_with s op rd addr next None (Some at) = trap s 5 at addr
+load_with s op rd addr next (Some at) error = trap s load_fault at addr
+load_with s op rd addr next None (Some at) = trap s load_fault at addr
 load_with s op rd addr next None None = record {
   done = Retires (record {
     rd = rd;
@@ -60,11 +63,11 @@ load_with s op rd addr next None None = record {
 
 -- cause 5: a portion that protection refuses comes before one that no memory answers
 unfoldable pub load : State → LoadOp → ℕ → ℕ → ℕ → Executed
-load s op rd addr next = load_with s op rd addr next (refused_at s addr (size_of op) Read) (error_at s.memory addr (size_of op))
+load s op rd addr next = load_with s op rd addr next (refused_at s.csrs addr (size_of op) Read) (error_at s.memory.ram addr (size_of op))
 
 abbrev pub store_with : State → ℕ → ℕ → ℕ → ℕ → Option ℕ → Option ℕ → Executed
-store_with s size addr value next (Some at) error = trap s 7 at addr
-store_with s size addr value next None (Some at) = record (trap s 7 at addr) { memory = stored s.memory addr size value }
+store_with s size addr value next (Some at) error = trap s store_fault at addr
+store_with s size addr value next None (Some at) = record (trap s store_fault at addr) { memory = stored s.memory addr size (value % 256 ^ size) }
 store_with s size addr value next None None = record {
   done = Retires (record {
     rd = 0;
@@ -73,13 +76,13 @@ store_with s size addr value next None None = record {
     ctl = None;
     next_pc = next;
   });
-  memory = stored s.memory addr size value;
+  memory = stored s.memory addr size (value % 256 ^ size);
   csrs = csr_tick s.csrs true None;
 }
 
 -- cause 7; a store whose second portion no memory answers has written its first
 unfoldable pub store : State → ℕ → ℕ → ℕ → ℕ → Executed
-store s size addr value next = store_with s size addr value next (refused_at s addr size Write) (error_at s.memory addr size)
+store s size addr value next = store_with s size addr value next (refused_at s.csrs addr size Write) (error_at s.memory.ram addr size)
 
 abbrev pub csr_with : State → CsrOp → ℕ → ℕ → ℕ → ℕ → ℕ → ℕ → Option ℕ → Executed
 csr_with s op rd src source addr word next None = illegal s word
@@ -91,7 +94,7 @@ csr_with s op rd src source addr word next (Some old) =
         rd = rd;
         value = old;
         mem = None;
-        ctl = if is_control addr then Some (written op old source) else None;
+        ctl = if is_control_at addr then Some (written op old source) else None;
         next_pc = next;
       });
       memory = s.memory;
@@ -112,10 +115,6 @@ return_from_trap s word =
       csrs = with_trap_regs (csr_tick s.csrs true None) (leave_of (trap_regs s.csrs));
     }
 
--- WFI is illegal in U mode where TW is 1
-abbrev pub may_wait : State → Bool
-may_wait s = s.csrs.machine || bit_and s.csrs.mstatus 0x200000 == 0
-
 -- What an instruction does whose word and length in bytes are these, with the interrupt lines of its cycle.
 unfoldable pub execute : State → Insn → ℕ → ℕ → ℕ → Executed
 execute s (Lui rd imm) word length lines = plain s rd imm (following s length)
@@ -133,7 +132,7 @@ execute s (Csr op rd src true addr) word length lines = csr_access s op rd src s
 execute s (Csr op rd src false addr) word length lines = csr_access s op rd src (reg s src) addr word (following s length) lines
 execute s Fence word length lines = plain s 0 0 (following s length)
 execute s FenceI word length lines = plain s 0 0 (following s length)
-execute s Ecall word length lines = trap s (if s.csrs.machine then 11 else 8) 0 0
-execute s Ebreak word length lines = trap s 3 0 0
+execute s Ecall word length lines = trap s (if s.csrs.machine then machine_call else user_call) 0 0
+execute s Ebreak word length lines = trap s breakpoint 0 0
 execute s Mret word length lines = return_from_trap s word
-execute s Wfi word length lines = if may_wait s then plain s 0 0 (following s length) else illegal s word
+execute s Wfi word length lines = if may_wait s.csrs then plain s 0 0 (following s length) else illegal s word

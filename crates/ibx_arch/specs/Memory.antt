@@ -1,22 +1,19 @@
 -- The bytes of memory, by their addresses.
 use Rattle.std.specs.Prelude.{ℕ, ◌+◌, ◌-◌, ◌%◌, ◌^◌, Bool, ◌&&◌, ◌||◌, nat_le, nat_lt, if◌then◌else◌}
+use Rattle.ibx_bits.specs.Platform.{host_page_has}
 use Rattle.ibx_elf.specs.declared.ram.Ram.{Ram}
-use Rattle.ibx_elf.specs.Image.{Placed, byte_of}
+use Rattle.ibx_elf.specs.Image.{Placed, image_byte}
 use Rattle.ibx_elf.specs.Ram.{ram_has}
-use Rattle.ibx_lsu.specs.Portions.{word_byte, bytes_number}
+use Rattle.ibx_bits.specs.Bytes.{word_byte, bytes_number}
 
 -- The range of RAM, and the byte at each address of it. What the map says of other addresses has no meaning.
 pub record Memory : Type 0 where
   pub ram : Ram
   pub byte : ℕ → ℕ
 
--- the page of the host's two registers (our own rule)
-abbrev pub host_page_has : ℕ → Bool
-host_page_has addr = nat_le 0x20000 addr && nat_lt addr 0x21000
-
 -- an address that answers without an error
-abbrev pub is_mapped : Memory → ℕ → Bool
-is_mapped memory addr = ram_has memory.ram addr || host_page_has addr
+abbrev pub is_mapped : Ram → ℕ → Bool
+is_mapped ram addr = ram_has ram addr || host_page_has addr
 
 -- the byte that a read gives: the host's page reads as 0
 abbrev pub read_byte : Memory → ℕ → ℕ
@@ -41,4 +38,4 @@ with_bytes memory addr from to value = record memory {
 
 -- the memory of an image, with 0 outside RAM
 unfoldable pub image_memory : Placed → Memory
-image_memory image = record { ram = image.ram; byte = λ a. if ram_has image.ram a then byte_of image a else 0 }
+image_memory image = record { ram = image.ram; byte = λ a. if ram_has image.ram a then image_byte image a else 0 }

@@ -2,10 +2,11 @@
 use Rattle.std.specs.Prelude.{ℕ, zero, suc, ◌+◌, ◌*◌, ◌%◌, ◌^◌, Bool, true, false, ◌==◌, if◌then◌else◌, Option, Some, None, bit_and, List, replicate}
 use Rattle.ibx_elf.specs.Image.{Placed}
 use Rattle.ibx_isa.specs.declared.insn.Insn.{Insn}
-use Rattle.ibx_isa.specs.declared.insn.Insn.TheVariants.{Jalr, Branch, Load, Store, AluImm, Alu, MulDiv, Csr, Wfi}
+use Rattle.ibx_isa.specs.declared.insn.Insn.TheVariants.{Wfi}
+use Rattle.ibx_isa.specs.Sources.{source1, source2}
 use Rattle.ibx_isa.specs.declared.event.Event.{Event}
 use Rattle.ibx_isa.specs.declared.event.Event.TheVariants.{Retire, Trap, Irq}
-use Rattle.ibx_csr.specs.Values.{csr_reset, csr_tick, trap_regs, with_trap_regs}
+use Rattle.ibx_csr.specs.Values.{csr_reset, csr_tick, trap_regs, with_trap_regs, CsrValues}
 use Rattle.ibx_trap.specs.Interrupts.{pending_of}
 use Rattle.ibx_trap.specs.Traps.{enter_of, enter_target}
 use Rattle.ibx_arch.specs.declared.done.Done.{Done}
@@ -14,8 +15,12 @@ use Rattle.ibx_arch.specs.declared.fetched.Fetched.{Fetched}
 use Rattle.ibx_arch.specs.declared.fetched.Fetched.TheVariants.{Unsound, Instruction}
 use Rattle.ibx_arch.specs.Memory.{read_byte, image_memory}
 use Rattle.ibx_arch.specs.State.{State, reg, with_reg, at_cycle}
-use Rattle.ibx_arch.specs.Fetch.{fetch, instruction_of}
-use Rattle.ibx_arch.specs.Effects.{Executed, execute, trap, illegal, may_wait}
+use Rattle.ibx_arch.specs.Fetch.{fetch}
+use Rattle.ibx_decoder.specs.Instructions.{instruction_of}
+use Rattle.ibx_arch.specs.Effects.{Executed, execute, trap, illegal}
+use Rattle.ibx_csr.specs.Modes.{may_wait}
+use Rattle.ibx_isa.specs.Causes.{fetch_fault}
+use Rattle.ibx_isa.specs.ControlBits.{data_ind_timing}
 
 -- what a step is taken with: an interrupt's number, or the two parcels that were fetched at the program counter
 pub data Choice : Type 0 where
@@ -27,37 +32,18 @@ pub record Stepped : Type 0 where
   pub event : Event
   pub next : State
 
--- the registers that an instruction reads as rs1 and rs2, 0 where it reads none
-abbrev pub source1 : Insn → ℕ
-source1 (Jalr rd rs1 imm) = rs1
-source1 (Branch op rs1 rs2 imm) = rs1
-source1 (Load op rd rs1 imm) = rs1
-source1 (Store size rs1 rs2 imm) = rs1
-source1 (AluImm op rd rs1 imm) = rs1
-source1 (Alu op rd rs1 rs2) = rs1
-source1 (MulDiv op rd rs1 rs2) = rs1
-source1 (Csr op rd src false addr) = src
-source1 _ = 0
-
-abbrev pub source2 : Insn → ℕ
-source2 (Branch op rs1 rs2 imm) = rs2
-source2 (Store size rs1 rs2 imm) = rs2
-source2 (Alu op rd rs1 rs2) = rs2
-source2 (MulDiv op rd rs1 rs2) = rs2
-source2 _ = 0
-
--- the operands, where fixed timing (bit 1 of cpuctrl) is off
+-- the operands, where fixed timing is off
 unfoldable pub operands : State → Insn → Option (ℕ × ℕ)
-operands s insn = if bit_and s.csrs.cpuctrl 2 == 0 then Some (reg s (source1 insn), reg s (source2 insn)) else None
+operands s insn = if bit_and s.csrs.cpuctrl data_ind_timing == 0 then Some (reg s (source1 insn), reg s (source2 insn)) else None
 
 -- The event of an instruction at a program counter and the state after it, from how it ended. A trap goes to
 -- its handler (Privileged ISA 1.12, 3.1.6.1).
-abbrev pub ended : ℕ → List ℕ → ℕ → ℕ → Option (ℕ × ℕ) → Executed → Done → Stepped
-ended pc regs cycle word ops after (Retires r) = record {
+abbrev pub stepped_by : ℕ → List ℕ → ℕ → ℕ → Option (ℕ × ℕ) → Executed → Done → Stepped
+stepped_by pc regs cycle word ops after (Retires r) = record {
   event = Retire cycle pc word r.rd (if r.rd == 0 then 0 else r.value) r.mem r.ctl ops;
   next = record { pc = r.next_pc; regs = with_reg regs r.rd r.value; memory = after.memory; csrs = after.csrs; stands = cycle + 1 };
 }
-ended pc regs cycle word ops after (Traps cause tval addr) = record {
+stepped_by pc regs cycle word ops after (Traps cause tval addr) = record {
   event = Trap cycle pc word cause tval addr;
   next = record {
     pc = enter_target (trap_regs after.csrs) cause false;
@@ -69,7 +55,7 @@ ended pc regs cycle word ops after (Traps cause tval addr) = record {
 }
 
 unfoldable pub finished : ℕ → List ℕ → ℕ → ℕ → Option (ℕ × ℕ) → Executed → Stepped
-finished pc regs cycle word ops executed = ended pc regs cycle word ops executed executed.done
+finished pc regs cycle word ops executed = stepped_by pc regs cycle word ops executed executed.done
 
 -- a word that fits no row is illegal
 abbrev pub decoded : State → ℕ → ℕ → ℕ → ℕ → Option Insn → Stepped
@@ -78,7 +64,7 @@ decoded s cycle word length lines (Some insn) = finished s.pc s.regs cycle word 
 
 -- an unsound parcel is an instruction access fault, cause 1, whose event has no word
 abbrev pub after_fetch : State → ℕ → ℕ → Fetched → Stepped
-after_fetch s cycle lines (Unsound addr) = finished s.pc s.regs cycle 0 None (trap s 1 addr 0)
+after_fetch s cycle lines (Unsound addr) = finished s.pc s.regs cycle 0 None (trap s fetch_fault addr 0)
 after_fetch s cycle lines (Instruction word length) = decoded s cycle word length lines (instruction_of word)
 
 -- one instruction, from the parcels at the program counter, at a cycle with these interrupt lines
@@ -96,22 +82,34 @@ interrupted s number cycle = record {
   };
 }
 
+-- the interrupt that is taken in this state with these lines
+abbrev pub pending_in : CsrValues → ℕ → Option ℕ
+pending_in csrs lines = pending_of csrs.machine csrs.mstatus csrs.mie lines
+
 -- the pending interrupt is this one
 abbrev pub is_pending : Option ℕ → ℕ → Bool
 is_pending None number = false
 is_pending (Some n) number = n == number
 
 -- the state takes this interrupt with these lines
-abbrev pub takes : State → ℕ → ℕ → Bool
-takes s lines number = is_pending (pending_of s.csrs.machine s.csrs.mstatus s.csrs.mie lines) number
+abbrev pub is_taken : CsrValues → ℕ → ℕ → Bool
+is_taken csrs lines number = is_pending (pending_in csrs lines) number
 
--- The step with a choice at a cycle, where the plan's lines are a function of the cycle. An interrupt is a
+-- The state takes this choice at a cycle, where the plan's lines are a function of the cycle. An interrupt is a
 -- choice only where it is pending with the lines of the cycle before, in which it was admitted.
+unfoldable pub takes_choice : (ℕ → ℕ) → State → Choice → ℕ → Bool
+takes_choice lines s (Interrupt number) zero = false
+takes_choice lines s (Interrupt number) (suc before) = is_taken s.csrs (lines before) number
+takes_choice lines s (Parcels first second) cycle = true
+
+-- the step with a choice that the state takes
+unfoldable pub step_with : (ℕ → ℕ) → State → Choice → ℕ → Stepped
+step_with lines s (Interrupt number) cycle = interrupted (at_cycle s cycle) number cycle
+step_with lines s (Parcels first second) cycle = instruction (at_cycle s cycle) first second cycle (lines cycle)
+
+-- the step with a choice at a cycle, where the state takes it
 unfoldable pub arch_step : (ℕ → ℕ) → State → Choice → ℕ → Option Stepped
-arch_step lines s (Interrupt number) zero = None
-arch_step lines s (Interrupt number) (suc before) =
-    if takes s (lines before) number then Some (interrupted (at_cycle s (suc before)) number (suc before)) else None
-arch_step lines s (Parcels first second) cycle = Some (instruction (at_cycle s cycle) first second cycle (lines cycle))
+arch_step lines s choice cycle = if takes_choice lines s choice cycle then Some (step_with lines s choice cycle) else None
 
 -- the state at reset: the image in memory, its entry, registers of 0, and the CSRs' reset values
 unfoldable pub reset_state : Placed → State
@@ -128,16 +126,16 @@ abbrev pub parcel_at : State → ℕ → ℕ
 parcel_at s addr = read_byte s.memory addr + 256 * read_byte s.memory ((addr + 1) % 2 ^ 32)
 
 -- a WFI that isn't illegal, and so waits for an interrupt
-abbrev pub waits_with : State → Option Insn → Bool
-waits_with s (Some Wfi) = may_wait s
-waits_with s _ = false
+abbrev pub is_wait : CsrValues → Option Insn → Bool
+is_wait csrs (Some Wfi) = may_wait csrs
+is_wait csrs _ = false
 
-abbrev pub waits_at : State → Fetched → Bool
-waits_at s (Unsound addr) = false
-waits_at s (Instruction word length) = waits_with s (instruction_of word)
+abbrev pub is_wait_at : CsrValues → Fetched → Bool
+is_wait_at csrs (Unsound addr) = false
+is_wait_at csrs (Instruction word length) = is_wait csrs (instruction_of word)
 
-unfoldable pub waits : State → ℕ → ℕ → Bool
-waits s first second = waits_at s (fetch s first second)
+unfoldable pub would_wait : State → ℕ → ℕ → Bool
+would_wait s first second = is_wait_at s.csrs (fetch s first second)
 
 -- The step of a machine that fetches what memory holds, and that no interrupt line ever reaches. It has none
 -- for a WFI that would wait for ever.
@@ -145,4 +143,4 @@ unfoldable pub present_step : State → ℕ → Option Stepped
 present_step s cycle =
     let first = parcel_at s s.pc in
     let second = parcel_at s ((s.pc + 2) % 2 ^ 32) in
-    if waits s first second then None else arch_step (λ _. 0) s (Parcels first second) cycle
+    if would_wait s first second then None else arch_step (λ _. 0) s (Parcels first second) cycle

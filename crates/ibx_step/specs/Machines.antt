@@ -1,9 +1,10 @@
 -- The machine's state, and what a step makes of it.
 use Rattle.std.specs.Prelude.{◌≡◌, ◌≢◌, ℕ, ◌%◌, ◌^◌, ◌<◌, ◌≤◌, Option, Some, None, true}
+use Rattle.ibx_isa.specs.Lengths.{IsWordOrHalf}
 use Rattle.ibx_isa.specs.declared.event.Event.{Event}
 use Rattle.ibx_csr.specs.Fields.{values}
 use Rattle.ibx_csr.specs.Values.{csr_tick}
-use Rattle.ibx_trace.specs.Lines.{register_of, word_of, Stores, IsStore}
+use Rattle.ibx_isa.specs.Events.{event_register, event_word, Stores, IsStore}
 use Rattle.ibx_arch.specs.declared.done.Done.{Done}
 use Rattle.ibx_arch.specs.declared.done.Done.TheVariants.{Retires, Traps}
 use Rattle.ibx_arch.specs.declared.done.Retirement.{Retirement}
@@ -11,9 +12,11 @@ use Rattle.ibx_arch.specs.declared.fetched.Fetched.{Fetched}
 use Rattle.ibx_arch.specs.declared.fetched.Fetched.TheVariants.{Unsound, Instruction}
 use Rattle.ibx_arch.specs.State.{State}
 use Rattle.ibx_arch.specs.Effects.{Executed}
-use Rattle.ibx_arch.specs.Step.{Stepped}
+use Rattle.ibx_arch.specs.Step.{Stepped, Choice, Interrupt, Parcels}
+use Rattle.ibx_step.specs.declared.choice.Choice.{Choice as Chosen}
+use Rattle.ibx_step.specs.declared.choice.Choice.TheVariants.{Interrupt as ChosenInterrupt, Parcels as ChosenParcels}
 use Rattle.ibx_step.specs.declared.machine.Machine.{Machine}
-use Rattle.ibx_step.specs.Words.{memory_of}
+use Rattle.ibx_memory.specs.Words.{memory_of}
 
 -- the state of the architecture that a machine is in
 abbrev pub state_of : Machine → State
@@ -26,6 +29,11 @@ left_in done m = record { done = done; memory = memory_of m.storage; csrs = valu
 -- an event, and the state of a machine after it
 abbrev pub stepped_to : Event → Machine → Stepped
 stepped_to event m = record { event = event; next = state_of m }
+
+-- the architecture's choice that the code's is
+abbrev pub choice_of : Chosen → Choice
+choice_of (ChosenInterrupt number) = Interrupt number
+choice_of (ChosenParcels first second) = Parcels first second
 
 -- the program counter, the registers and the cycle of the counters are as they were
 pub record KeepsPlace (before after : Machine) : Type 0 where
@@ -42,16 +50,6 @@ HasRegister (Traps cause tval addr) = Unit {0}
 abbrev pub Steps : State → Option Stepped → Option Event → State → Type 0
 Steps before None event after = (event ≡ None) × (after ≡ before)
 Steps before (Some stepped) event after = (event ≡ Some stepped.event) × (after ≡ stepped.next)
-
--- a halfword is below 2^16
-abbrev pub IsWordOrHalf : ℕ → Type 0
-IsWordOrHalf word = word % 4 ≢ 3 → word < 2 ^ 16
-
--- an event that has a line
-pub record IsPrintable (e : Event) : Type 0 where
-  pub register : register_of e < 32
-  pub store : Stores e → register_of e ≡ 0
-  pub halfword : word_of e % 4 ≢ 3 → word_of e < 2 ^ 16
 
 -- an instruction that retires and leaves memory
 abbrev pub retiring : State → Retirement → Executed

@@ -2,16 +2,16 @@ ghost use Rattle.std.specs.Prelude.{◌≡◌, ◌≤◌, ◌<◌, ◌^◌, ◌%
 ghost use Rattle.ibx_isa.specs.WellFormed.{IsAccessSize};
 ghost use Rattle.ibx_csr.specs.Fields.{values};
 ghost use Rattle.ibx_csr.specs.Values.{csr_tick};
-ghost use Rattle.ibx_lsu.specs.Portions.{portion_addr, portion_size, size_of};
-ghost use Rattle.ibx_arch.specs.Access.{access_machine, is_refused, refused_at};
+ghost use Rattle.ibx_isa.specs.Portions.{portion_addr, portion_size, size_of};
+ghost use Rattle.ibx_arch.specs.Access.{is_refused, refused_at};
 ghost use Rattle.ibx_arch.specs.Effects.{load, store, trap, plain, illegal};
-ghost use Rattle.ibx_step.specs.Words.{memory_of};
+ghost use Rattle.ibx_memory.specs.Words.{memory_of};
 ghost use Rattle.ibx_step.specs.Machines.{state_of, left_in, KeepsPlace, HasRegister, retiring};
 
 use crate::machine::Machine;
 use ibx_arch::{Done, Retirement};
-use ibx_isa::{Access, LoadOp};
-use ibx_lsu::parts;
+use ibx_isa::cause::{ILLEGAL_INSTRUCTION, LOAD_FAULT, STORE_FAULT};
+use ibx_isa::{Access, LoadOp, access_size, low_bytes, parts, portion_bytes, portion_start};
 use ibx_pmp::{AccessKind, allow};
 
 impl Machine {
@@ -57,21 +57,13 @@ impl Machine {
         ensures place { KeepsPlace self.old self.new }
         ensures register { HasRegister result }
     {
-        self.trap(2, word, 0)
-    }
-
-    // The mode of loads and stores: true for M.
-    fn access_machine(&self) -> bool
-        ensures { result ≡ access_machine (values self.now.csrs) }
-    {
-        let regs = self.csrs.regs();
-        regs.machine && (regs.mstatus & 0x2_0000 == 0 || regs.mstatus & 0x1800 == 0x1800)
+        self.trap(ILLEGAL_INSTRUCTION, word, 0)
     }
 
     // Whether protection refuses a portion of an access.
     fn is_refused(&self, addr: u32, size: u8, kind: AccessKind, second: bool) -> bool
         requires { size ≤ 4 }
-        ensures { result ≡ is_refused (state_of self.now) addr size kind second }
+        ensures { result ≡ is_refused (values self.now.csrs) addr size kind second }
     {
         let start = portion_start(addr, second);
         let bytes = portion_bytes(addr, size, second);
@@ -80,7 +72,7 @@ impl Machine {
             start,
             bytes,
             kind,
-            self.access_machine(),
+            self.csrs.access_machine(),
         )
     }
 
@@ -88,7 +80,7 @@ impl Machine {
     #[tactic(auto, unfolding(ibx_arch::specs::Access::refused_at))]
     fn refused(&self, addr: u32, size: u8, kind: AccessKind) -> Option<u32>
         requires { size ≤ 4 }
-        ensures { result ≡ refused_at (state_of self.now) addr size kind }
+        ensures { result ≡ refused_at (values self.now.csrs) addr size kind }
     {
         if self.is_refused(addr, size, kind, false) {
             Some(portion_start(addr, false))
@@ -109,10 +101,10 @@ impl Machine {
     {
         let size = access_size(op);
         if let Some(at) = self.refused(addr, size, AccessKind::Read) {
-            return self.trap(5, at, addr);
+            return self.trap(LOAD_FAULT, at, addr);
         }
         if let Some(at) = self.storage.error(addr, size) {
-            return self.trap(5, at, addr);
+            return self.trap(LOAD_FAULT, at, addr);
         }
         let value = self.storage.load(op, addr);
         self.retire(Retirement {
@@ -138,12 +130,13 @@ impl Machine {
         ensures register { HasRegister result }
     {
         if let Some(at) = self.refused(addr, size, AccessKind::Write) {
-            return self.trap(7, at, addr);
+            return self.trap(STORE_FAULT, at, addr);
         }
+        let value = low_bytes(value, size);
         let error = self.storage.error(addr, size);
         self.storage.store(addr, size, value);
         if let Some(at) = error {
-            return self.trap(7, at, addr);
+            return self.trap(STORE_FAULT, at, addr);
         }
         self.retire(Retirement {
             rd: 0,
@@ -152,55 +145,10 @@ impl Machine {
                 addr,
                 size,
                 store: true,
-                value: low_bytes(value, size),
+                value,
             }),
             ctl: None,
             next_pc,
         })
-    }
-}
-
-// The byte address of a portion; that of the second is the next word's.
-fn portion_start(addr: u32, second: bool) -> u32
-    ensures { result ≡ portion_addr addr second }
-{
-    if second {
-        (addr - addr % 4).wrapping_add(4)
-    } else {
-        addr
-    }
-}
-
-// The bytes of a portion: those in the first word, and the rest.
-fn portion_bytes(addr: u32, size: u8, second: bool) -> u8
-    ensures { result ≡ portion_size addr size second }
-{
-    let room = (4 - addr % 4) as u8;
-    if second {
-        size.saturating_sub(room)
-    } else {
-        size.min(room)
-    }
-}
-
-fn access_size(op: LoadOp) -> u8
-    ensures value { result ≡ size_of op }
-    ensures most { result ≤ 4 }
-{
-    match op {
-        LoadOp::Lb | LoadOp::Lbu => 1,
-        LoadOp::Lh | LoadOp::Lhu => 2,
-        LoadOp::Lw => 4,
-    }
-}
-
-fn low_bytes(value: u32, size: u8) -> u32
-    requires { IsAccessSize size }
-    ensures { result ≡ value % 256 ^ size }
-{
-    match size {
-        1 => value % 0x100,
-        2 => value % 0x1_0000,
-        _ => value,
     }
 }

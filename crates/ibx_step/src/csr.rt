@@ -1,11 +1,11 @@
 ghost use Rattle.std.specs.Prelude.{◌≡◌, ◌<◌, ◌^◌};
-ghost use Rattle.ibx_arch.specs.Csr.{writes as writes_of, written as written_of, is_control as is_control_of};
-ghost use Rattle.ibx_arch.specs.Effects.{csr_access, return_from_trap, may_wait};
+ghost use Rattle.ibx_arch.specs.Effects.{csr_access, return_from_trap};
 ghost use Rattle.ibx_step.specs.Machines.{state_of, left_in, KeepsPlace, HasRegister};
 
 use crate::machine::Machine;
 use ibx_arch::{Done, Retirement};
-use ibx_isa::CsrOp;
+use ibx_csr::is_control_at;
+use ibx_isa::{CsrOp, writes, written};
 use ibx_trap::leave;
 
 /// A CSR instruction: the operation, the register that takes the old value, the source field and the source's
@@ -45,7 +45,7 @@ impl Machine {
             rd: access.rd,
             value: old,
             mem: None,
-            ctl: if is_control(access.addr) {
+            ctl: if is_control_at(access.addr) {
                 Some(value)
             } else {
                 None
@@ -70,39 +70,4 @@ impl Machine {
         self.csrs.set_regs(&after);
         done
     }
-
-    // Whether a WFI isn't illegal.
-    pub(crate) fn may_wait(&self) -> bool
-        ensures { result ≡ may_wait (state_of self.now) }
-    {
-        let regs = self.csrs.regs();
-        regs.machine || regs.mstatus & 0x20_0000 == 0
-    }
-}
-
-fn writes(op: CsrOp, src: u8) -> bool
-    ensures { result ≡ writes_of op src }
-{
-    match op {
-        CsrOp::Write => true,
-        CsrOp::Set | CsrOp::Clear => src != 0,
-    }
-}
-
-fn written(op: CsrOp, old: u32, source: u32) -> u32
-    ensures { result ≡ written_of op old source }
-{
-    match op {
-        CsrOp::Write => source,
-        CsrOp::Set => old | source,
-        CsrOp::Clear => old & !source,
-    }
-}
-
-fn is_control(addr: u16) -> bool
-    ensures { result ≡ is_control_of addr }
-{
-    matches!(addr, 0x300 | 0x304 | 0x7c0 | 0x7c1)
-        || (0x3a0 <= addr && addr <= 0x3a3)
-        || (0x3b0 <= addr && addr <= 0x3bf)
 }

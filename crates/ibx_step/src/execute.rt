@@ -7,6 +7,7 @@ ghost use Rattle.ibx_step.specs.Machines.{state_of, left_in, KeepsPlace, HasRegi
 use crate::csr::CsrAccess;
 use crate::machine::Machine;
 use ibx_arch::Done;
+use ibx_isa::cause::{BREAKPOINT, MACHINE_CALL, USER_CALL};
 use ibx_isa::{Insn, MdOp, MulKind, alu, branch};
 use ibx_muldiv::MulDiv;
 
@@ -77,13 +78,17 @@ impl Machine {
             }
             Insn::Fence | Insn::FenceI => self.plain(0, 0, next),
             Insn::Ecall => {
-                let cause = if self.csrs.regs().machine { 11 } else { 8 };
+                let cause = if self.csrs.regs().machine {
+                    MACHINE_CALL
+                } else {
+                    USER_CALL
+                };
                 self.trap(cause, 0, 0)
             }
-            Insn::Ebreak => self.trap(3, 0, 0),
+            Insn::Ebreak => self.trap(BREAKPOINT, 0, 0),
             Insn::Mret => self.return_from_trap(word),
             Insn::Wfi => {
-                if self.may_wait() {
+                if self.csrs.may_wait() {
                     self.plain(0, 0, next)
                 } else {
                     self.illegal(word)

@@ -2,12 +2,14 @@
 #![tactic(auto)]
 
 mod access;
+mod choice;
 mod csr;
 mod execute;
 mod fetch;
 mod machine;
 mod storage;
 
+pub use choice::Choice;
 pub use machine::Machine;
 
 #[cfg(test)]
@@ -54,6 +56,36 @@ mod tests {
             };
             assert_eq!(rt; machine.step(cycle as u64), Some(want));
         }
+        Ok(())
+    }
+
+    #[test]
+    fn an_interrupt_goes_to_its_entry(rt: HostRuntime) -> Result<(), Fail> {
+        let ram = Ram {
+            base: 0x10_0000,
+            size: 0x10_0000,
+        };
+        assert!(rt; ram.is_valid());
+        let image = load(&FILE, ram)?;
+        let mut machine = Machine::reset(rt.alloc(), &image)?;
+        let taken = Event::Irq {
+            cycle: 0,
+            pc: 0x10_0080,
+            cause: 7,
+        };
+        assert_eq!(rt; machine.take(Choice::Interrupt(7), 0, 0x80), taken);
+        // C.NOP, at the entry of interrupt 7.
+        let nop = Event::Retire {
+            cycle: 1,
+            pc: 0x10_001c,
+            word: 0x0001,
+            rd: 0,
+            value: 0,
+            mem: None,
+            ctl: None,
+            ops: Some((0, 0)),
+        };
+        assert_eq!(rt; machine.take(Choice::Parcels(0x0001, 0), 1, 0), nop);
         Ok(())
     }
 }

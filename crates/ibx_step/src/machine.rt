@@ -1,17 +1,23 @@
 ghost use Rattle.std.specs.Prelude.{◌≡◌, ◌≤◌, ◌<◌, ◌^◌, IfOk, IfSome};
 ghost use Rattle.ibx_arch.specs.State.{reg, with_reg, at_cycle};
-ghost use Rattle.ibx_arch.specs.Step.{finished, instruction, decoded, operands, reset_state, present_step};
-ghost use Rattle.ibx_arch.specs.Fetch.{instruction_of};
+ghost use Rattle.ibx_arch.specs.Step.{finished, interrupted, operands, reset_state, present_step, step_with};
+ghost use Rattle.ibx_arch.specs.Laws.{IsAligned};
 ghost use Rattle.ibx_isa.specs.WellFormed.{IsWellFormed};
-ghost use Rattle.ibx_step.specs.Machines.{state_of, left_in, stepped_to, HasRegister, IsWordOrHalf, Steps, IsPrintable};
+ghost use Rattle.ibx_step.specs.Machines.{state_of, left_in, stepped_to, choice_of, HasRegister, Steps};
+ghost use Rattle.ibx_step.specs.Preparing.{carried_out, IsSound};
+ghost use Rattle.ibx_isa.specs.Events.{IsPrintable};
+ghost use Rattle.ibx_isa.specs.Lengths.{IsWordOrHalf};
 
-use crate::fetch::{instruction_at, sources};
+use crate::choice::Choice;
+use crate::fetch::Prepared;
 use crate::storage::Storage;
-use ibx_arch::{Done, Fetched};
+use ibx_arch::Done;
 use ibx_base::NoMemory;
 use ibx_csr::Csrs;
 use ibx_elf::Image;
-use ibx_isa::{Event, Insn};
+use ibx_isa::cause::FETCH_FAULT;
+use ibx_isa::control::DATA_IND_TIMING;
+use ibx_isa::{Event, Insn, sources};
 use ibx_trap::enter;
 use std::alloc::Global;
 
@@ -30,7 +36,8 @@ impl Machine {
     /// The machine at reset, with an image in its memory.
     #[tactic(auto, unfolding(ibx_arch::specs::Step::reset_state))]
     pub fn reset(alloc: Global, image: &Image<'_>) -> Result<Machine, NoMemory>
-        ensures { IfOk result (λ machine. state_of machine ≡ reset_state image.now) }
+        ensures state { IfOk result (λ machine. state_of machine ≡ reset_state image.now) }
+        ensures aligned { IfOk result (λ machine. IsAligned (state_of machine)) }
     {
         let storage = Storage::new(alloc, image)?;
         let pc = image.entry();
@@ -44,65 +51,91 @@ impl Machine {
     }
 
     /// The step with the parcels that memory holds at the program counter, at a cycle that is not before the
-    /// one at which the counters stand, where no interrupt line is ever high. None for a WFI that would wait
-    /// for ever, and then nothing changes.
-    #[tactic(auto, unfolding(ibx_arch::specs::Step::present_step, ibx_arch::specs::Step::arch_step))]
+    /// one at which the counters stand, where no interrupt line is ever high. The program counter is even, as it
+    /// is after a reset and stays. None for a WFI that would wait for ever, and then nothing changes.
     pub fn step(&mut self, cycle: u64) -> Option<Event>
-        requires { cycle < 2 ^ 62 }
+        requires cycle { cycle < 2 ^ 62 }
+        requires aligned { IsAligned (state_of self.old) }
         ensures stepped { Steps (state_of self.old) (present_step (state_of self.old) cycle) result (state_of self.new) }
+        ensures aligned { IsAligned (state_of self.new) }
         ensures printable { IfSome result IsPrintable }
     {
         let first = self.storage.parcel(self.pc);
         let second = self.storage.parcel(self.pc.wrapping_add(2));
-        if self.waits(first, second) {
+        let prepared = self.prepare(first, second);
+        if self.waits(prepared) {
             return None;
         }
-        self.move_to(cycle);
-        Some(self.instruction(first, second, cycle, 0))
+        Some(self.carry_out(prepared, cycle, 0))
+    }
+
+    /// The step with a choice, at a cycle that is not before the one at which the counters stand, with the interrupt
+    /// lines of that cycle. It is the step whether or not the state takes the choice.
+    pub fn take(&mut self, choice: Choice, cycle: u64, lines: u32) -> Event
+        requires cycle { cycle < 2 ^ 62 }
+        requires aligned { IsAligned (state_of self.old) }
+        ensures stepped { stepped_to result self.new ≡ step_with (λ _. lines) (state_of self.old) (choice_of choice) cycle }
+        ensures aligned { IsAligned (state_of self.new) }
+        ensures printable { IsPrintable result }
+    {
+        match choice {
+            Choice::Interrupt(number) => self.interrupt(number, cycle),
+            Choice::Parcels(first, second) => {
+                let prepared = self.prepare(first, second);
+                self.carry_out(prepared, cycle, lines)
+            }
+        }
     }
 
     // Moves the counters to a cycle.
-    #[tactic(auto, unfolding(ibx_csr::specs::Fields::values, ibx_csr::specs::Values::counters_after))]
     fn move_to(&mut self, cycle: u64)
         ensures { state_of self.new ≡ at_cycle (state_of self.old) cycle }
     {
         let passed = cycle.saturating_sub(self.stands);
-        if self.csrs.mcountinhibit & 1 == 0 {
-            self.csrs.mcycle = self.csrs.mcycle.wrapping_add(passed);
-        }
+        self.csrs.pass(passed);
         self.stands = cycle;
     }
 
-    // One instruction, from the parcels at the program counter.
-    #[tactic(auto, unfolding(ibx_arch::specs::Step::instruction))]
-    fn instruction(&mut self, first: u16, second: u16, cycle: u64, lines: u32) -> Event
+    // Takes an interrupt.
+    #[tactic(auto, unfolding(ibx_arch::specs::Step::interrupted))]
+    fn interrupt(&mut self, number: u8, cycle: u64) -> Event
         requires { cycle < 2 ^ 62 }
-        ensures stepped { stepped_to result self.new ≡ instruction (state_of self.old) first second cycle lines }
+        ensures stepped { stepped_to result self.new ≡ interrupted (at_cycle (state_of self.old) cycle) number cycle }
         ensures printable { IsPrintable result }
     {
-        match self.fetch(first, second) {
-            Fetched::Unsound(addr) => {
-                let done = self.trap(1, addr, 0);
-                self.finish(cycle, 0, None, done)
-            }
-            Fetched::Instruction { word, length } => self.decoded(word, length, cycle, lines),
+        self.move_to(cycle);
+        let pc = self.pc;
+        let (regs, target) = enter(&self.csrs.regs(), pc, number, true, 0);
+        self.csrs.tick(false, None);
+        self.csrs.set_regs(&regs);
+        self.pc = target;
+        self.stands = cycle + 1;
+        Event::Irq {
+            cycle,
+            pc,
+            cause: number,
         }
     }
 
-    // One instruction that was fetched.
-    fn decoded(&mut self, word: u32, length: u32, cycle: u64, lines: u32) -> Event
+    // Carries out what was fetched and decoded.
+    #[tactic(auto, unfolding(crate::specs::Preparing::carried_out))]
+    fn carry_out(&mut self, prepared: Prepared, cycle: u64, lines: u32) -> Event
         requires cycle { cycle < 2 ^ 62 }
-        requires length { length ≤ 4 }
-        requires word { IsWordOrHalf word }
-        ensures stepped { stepped_to result self.new ≡ decoded (state_of self.old) cycle word length lines (instruction_of word) }
+        requires sound { IsSound prepared }
+        ensures stepped { stepped_to result self.new ≡ carried_out (at_cycle (state_of self.old) cycle) cycle lines prepared }
         ensures printable { IsPrintable result }
     {
-        match instruction_at(word) {
-            None => {
+        self.move_to(cycle);
+        match prepared {
+            Prepared::Unsound(addr) => {
+                let done = self.trap(FETCH_FAULT, addr, 0);
+                self.finish(cycle, 0, None, done)
+            }
+            Prepared::Illegal(word) => {
                 let done = self.illegal(word);
                 self.finish(cycle, word, None, done)
             }
-            Some(insn) => {
+            Prepared::Legal { insn, word, length } => {
                 let operands = self.operands(&insn);
                 let done = self.execute(insn, word, length, lines);
                 self.finish(cycle, word, operands, done)
@@ -116,7 +149,7 @@ impl Machine {
         requires { IsWellFormed insn.now }
         ensures { result ≡ operands (state_of self.now) insn.now }
     {
-        if self.csrs.regs().cpuctrl & 2 != 0 {
+        if self.csrs.regs().cpuctrl & DATA_IND_TIMING != 0 {
             return None;
         }
         let (first, second) = sources(insn);

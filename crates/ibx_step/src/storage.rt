@@ -1,14 +1,15 @@
 ghost use Rattle.std.specs.Prelude.{◌≡◌, ◌+◌, ◌*◌, ◌%◌, ◌^◌, ◌<◌, ◌≤◌, IfOk, ℕ, slice_index, length};
-ghost use Rattle.ibx_elf.specs.Image.{byte_of};
-ghost use Rattle.ibx_lsu.specs.Portions.{word_byte, size_of, loaded, portion_size};
+ghost use Rattle.ibx_elf.specs.Image.{image_byte};
+ghost use Rattle.ibx_bits.specs.Bytes.{word_byte};
+ghost use Rattle.ibx_isa.specs.Portions.{size_of, loaded, portion_size};
 ghost use Rattle.ibx_arch.specs.Memory.{is_mapped, read_byte, read_bytes, with_bytes, image_memory};
 ghost use Rattle.ibx_arch.specs.Access.{error_at, stored};
-ghost use Rattle.ibx_step.specs.Words.{merged_byte, memory_of, HoldsBytes, part_from, part_to, part_word};
+ghost use Rattle.ibx_memory.specs.Words.{merged_byte, memory_of, HoldsBytes, portion_from, portion_to, portion_word};
 
 use ibx_base::NoMemory;
+use ibx_bits::{byte_at, host_page_has};
 use ibx_elf::{Image, Ram};
-use ibx_isa::LoadOp;
-use ibx_lsu::{gather, lanes, parts};
+use ibx_isa::{LoadOp, gather, lanes, parts};
 use std::alloc::Global;
 use std::marker::Model;
 
@@ -20,7 +21,7 @@ pub struct Storage {
 }
 
 impl Model for Storage {
-    ghost use Rattle.ibx_step.specs.Words.{Words, IsWhole};
+    ghost use Rattle.ibx_memory.specs.Words.{Words, IsWhole};
 
     ghost Value = { Words };
 
@@ -40,22 +41,22 @@ impl Storage {
     }
 
     /// Whether a byte address answers without an error: one of RAM or of the host's page.
-    #[tactic(auto, unfolding(crate::specs::Words::memory_of))]
+    #[tactic(auto, unfolding(ibx_memory::specs::Words::memory_of))]
     pub fn is_mapped(&self, addr: u32) -> bool
-        ensures { result ≡ is_mapped (memory_of self.now) addr }
+        ensures { result ≡ is_mapped (memory_of self.now).ram addr }
     {
-        self.ram.has(addr) || (0x0002_0000..0x0002_1000).contains(&addr)
+        self.ram.has(addr) || host_page_has(addr)
     }
 
     /// The byte that a read of a byte address gives.
-    #[tactic(auto, unfolding(crate::specs::Words::memory_of))]
+    #[tactic(auto, unfolding(ibx_memory::specs::Words::memory_of))]
     pub fn byte(&self, addr: u32) -> u8
         ensures { result ≡ read_byte (memory_of self.now) addr }
     {
         if !self.ram.has(addr) {
             return 0;
         }
-        lane(self.words[((addr - self.ram.base) / 4) as usize], addr % 4)
+        byte_at(self.words[((addr - self.ram.base) / 4) as usize], addr % 4)
     }
 
     /// The parcel of 16 bits at a byte address.
@@ -66,7 +67,7 @@ impl Storage {
     }
 
     // The word at a byte address that is a multiple of 4.
-    #[tactic(auto, unfolding(crate::specs::Words::memory_of))]
+    #[tactic(auto, unfolding(ibx_memory::specs::Words::memory_of))]
     fn word(&self, addr: u32) -> u32
         requires { addr % 4 ≡ 0 }
         ensures { HoldsBytes (memory_of self.now) addr result }
@@ -91,7 +92,7 @@ impl Storage {
     /// The byte address of the portion of an access that no memory answers.
     #[tactic(auto, unfolding(ibx_arch::specs::Access::error_at))]
     pub fn error(&self, addr: u32, size: u8) -> Option<u32>
-        ensures { result ≡ error_at (memory_of self.now) addr size }
+        ensures { result ≡ error_at (memory_of self.now).ram addr size }
     {
         let second = (addr - addr % 4).wrapping_add(4);
         if !self.is_mapped(addr) {
@@ -116,13 +117,13 @@ impl Storage {
         }
     }
 
-    // Stores one part of an access.
+    // Stores one portion of an access.
     fn put(&mut self, addr: u32, size: u8, value: u32, second: bool)
         requires { size ≤ 4 }
-        ensures { memory_of self.new ≡ with_bytes (memory_of self.old) addr (part_from addr size second) (part_to addr size second) value }
+        ensures { memory_of self.new ≡ with_bytes (memory_of self.old) addr (portion_from addr size second) (portion_to addr size second) value }
     {
         let (enables, bits) = lanes(addr, size, value, second);
-        let start = part_start(addr, second);
+        let start = word_start(addr, second);
         if self.ram.has(start) {
             let place = ((start - self.ram.base) / 4) as usize;
             self.words[place] = merge(self.words[place], enables, bits);
@@ -130,25 +131,12 @@ impl Storage {
     }
 }
 
-// The byte address of the word of a part.
-fn part_start(addr: u32, second: bool) -> u32
-    ensures { result ≡ part_word addr second * 4 }
+// The byte address of the word of a portion.
+fn word_start(addr: u32, second: bool) -> u32
+    ensures { result ≡ portion_word addr second * 4 }
 {
     let first = addr - addr % 4;
     if second { first.wrapping_add(4) } else { first }
-}
-
-// The byte in a lane of a word.
-fn lane(word: u32, lane: u32) -> u8
-    requires { lane < 4 }
-    ensures { result ≡ word_byte word lane }
-{
-    match lane {
-        0 => (word % 0x100) as u8,
-        1 => (word / 0x100 % 0x100) as u8,
-        2 => (word / 0x1_0000 % 0x100) as u8,
-        _ => (word / 0x100_0000) as u8,
-    }
 }
 
 // The byte in a lane of two words: of the second where the lane is enabled.
@@ -158,9 +146,9 @@ fn merged_lane(word: u32, enables: u8, bits: u32, index: u32) -> u32
     ensures small { result < 256 }
 {
     if (enables >> index) % 2 == 1 {
-        lane(bits, index) as u32
+        byte_at(bits, index) as u32
     } else {
-        lane(word, index) as u32
+        byte_at(word, index) as u32
     }
 }
 
@@ -178,13 +166,10 @@ fn merge(word: u32, enables: u8, bits: u32) -> u32
 // The words of an image.
 fn image_words(alloc: Global, image: &Image<'_>) -> Result<Vec<u32>, NoMemory>
     ensures count { IfOk result (λ words. 4 * length words.items ≡ image.now.ram.size) }
-    ensures words { IfOk result (λ words. (k : ℕ) → 4 * k < image.now.ram.size → (j : ℕ) → j < 4 → word_byte (slice_index words.items k) j ≡ byte_of image.now (image.now.ram.base + 4 * k + j)) }
+    ensures words { IfOk result (λ words. (k : ℕ) → 4 * k < image.now.ram.size → (j : ℕ) → j < 4 → word_byte (slice_index words.items k) j ≡ image_byte image.now (image.now.ram.base + 4 * k + j)) }
 {
-    let ram = image.ram();
-    let count = ram.size / 4;
-    let mut words = Vec::with_capacity(alloc, count as usize)?;
-    for i in 0..count {
-        words.push(image.word(ram.base + 4 * i))?;
-    }
+    let count = (image.ram().size / 4) as usize;
+    let mut words = vec![in alloc; 0; count]?;
+    image.fill(&mut words);
     Ok(words)
 }

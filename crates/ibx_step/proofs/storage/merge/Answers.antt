@@ -1,6 +1,6 @@
 use Rattle.std.proofs.Common.{refl}
-use Rattle.ibx_step.specs.Words.{merged_byte}
-use Rattle.ibx_step.proofs.Lanes.{four_bytes}
+use Rattle.ibx_memory.specs.Words.{merged_byte}
+use Rattle.ibx_memory.proofs.Lanes.{four_bytes}
 use Rattle.ibx_step.proofs.storage.merge.Goals as goal
 
 pub returns : goal.returns

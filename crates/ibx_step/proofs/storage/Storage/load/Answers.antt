@@ -1,6 +1,6 @@
 use Rattle.std.proofs.Common.{◌∙◌}
-use Rattle.ibx_step.specs.Words.{memory_of}
-use Rattle.ibx_step.proofs.Loads.{loads}
+use Rattle.ibx_memory.specs.Words.{memory_of}
+use Rattle.ibx_memory.proofs.Loads.{loads}
 use Rattle.ibx_step.proofs.storage.Storage.load.Goals as goal
 
 pub returns : goal.returns

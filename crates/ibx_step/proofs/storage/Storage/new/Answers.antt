@@ -1,4 +1,4 @@
-use Rattle.ibx_step.proofs.Memories.{image_is}
+use Rattle.ibx_memory.proofs.Memories.{image_is}
 use Rattle.ibx_step.proofs.storage.Storage.new.Goals as goal
 
 pub returns : goal.returns

@@ -3,10 +3,10 @@ use Rattle.std.proofs.Common.{◌≡◌, ℕ, ◌+◌, ◌-◌, ◌%◌, ◌^◌
 use Rattle.std.proofs.lemmas.Bool.{cases_lt, lt-ltb, le-ltb}
 use Rattle.ibx_isa.specs.declared.insn.LoadOp.{LoadOp}
 use Rattle.ibx_isa.specs.declared.insn.LoadOp.TheVariants.{Lb, Lh, Lw, Lbu, Lhu}
-use Rattle.ibx_lsu.specs.Portions.{pair_byte, gather_of, loaded, size_of}
-use Rattle.ibx_lsu.proofs.Bytes.{same_bytes}
+use Rattle.ibx_isa.specs.Portions.{pair_byte, gather_of, loaded, size_of}
+use Rattle.ibx_bits.proofs.Bytes.{same_bytes}
 use Rattle.ibx_arch.specs.Memory.{Memory, read_byte, read_bytes}
-use Rattle.ibx_step.specs.Words.{HoldsBytes}
+use Rattle.ibx_memory.specs.Words.{HoldsBytes}
 
 size_of-le : (op : LoadOp) → size_of op ≤ 4
 size_of-le Lb = omega arith

@@ -1,8 +1,9 @@
 -- Bytes and bits of a word that was put together.
 use Rattle.std.proofs.Common.{◌≡◌, ℕ, zero, suc, ◌+◌, ◌-◌, ◌*◌, ◌%◌, ◌^◌, ◌<◌, Bool, true, false, cond, eqb, refl, ap, ◌∙◌, arith}
 use Rattle.std.specs.Int.{bit_at}
-use Rattle.ibx_lsu.specs.Portions.{word_byte, bytes_number, bits_number, lanes_of, is_held, lane_byte, place_of}
-use Rattle.ibx_step.specs.Words.{merged_byte}
+use Rattle.ibx_bits.specs.Bytes.{word_byte, bytes_number, bits_number}
+use Rattle.ibx_isa.specs.Portions.{lanes_of, is_held, lane_byte, place_of}
+use Rattle.ibx_memory.specs.Words.{merged_byte}
 
 pub four : (P : ℕ → Type 0) → P 0 → P 1 → P 2 → P 3 → (n : ℕ) → n < 4 → P n
 four P a b c d zero h = a
@@ -65,7 +66,7 @@ held_small : (b : Bool) (n : ℕ) → n < 256 → cond b n 0 < 256
 held_small true n h = h
 held_small false n h = omega arith
 
--- a word with the lanes of a part put in
+-- a word with the lanes of a portion put in
 pub merged_is : (addr size value old word : ℕ) (second : Bool) (lanes : ℕ × ℕ) → lanes ≡ lanes_of addr size value second
     → ((j : ℕ) → j < 4 → word_byte word j ≡ merged_byte old lanes.0 lanes.1 j)
     → (j : ℕ) → j < 4 → word_byte word j ≡ cond (is_held addr size second j) (lane_byte addr size value second j) (word_byte old j)

@@ -1,0 +1,3 @@
+mod Examples
+pub mod Aligned
+pub mod Written
