@@ -1,4 +1,4 @@
-ghost use Rattle.std.specs.Prelude.{None, ◌≤◌};
+ghost use Rattle.std.specs.Prelude.{None, ◌≡◌, ◌≤◌};
 ghost use Rattle.ibx_base.specs.Counts.{Rose};
 
 use ibx_base::{Failed, Files};
@@ -14,7 +14,10 @@ pub struct DiskFiles<'r> {
 }
 
 impl<'r> DiskFiles<'r> {
-    pub fn new(rt: &'r HostRuntime) -> DiskFiles<'r> {
+    /// No file is begun, and no fault was met.
+    pub fn new(rt: &'r HostRuntime) -> DiskFiles<'r>
+        ensures { result.faults ≡ 0 }
+    {
         DiskFiles {
             rt,
             begun: None,

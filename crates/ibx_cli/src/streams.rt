@@ -1,4 +1,4 @@
-ghost use Rattle.std.specs.Prelude.{None};
+ghost use Rattle.std.specs.Prelude.{None, ◌≡◌};
 
 use ibx_base::{Failed, Sink};
 use std::io::Write;
@@ -11,7 +11,10 @@ pub struct Stream<W: Write + Drop> {
 }
 
 impl<W: Write + Drop> Stream<W> {
-    pub fn new(writer: W) -> Stream<W> {
+    /// The stream that writes to this writer, of which no fault was met.
+    pub fn new(writer: W) -> Stream<W>
+        ensures { result.faults ≡ 0 }
+    {
         Stream { writer, faults: 0 }
     }
 }

@@ -1,3 +1,3 @@
 pub mod Gains
 pub mod Running
-pub mod EndLemmas
+pub mod Outcomes

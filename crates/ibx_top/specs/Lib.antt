@@ -1,5 +1,4 @@
-pub mod Stories
 pub mod Texts
 pub mod ErrLines
 pub mod Answers
-pub mod Ends
+pub mod Outcomes

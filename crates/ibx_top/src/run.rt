@@ -3,41 +3,17 @@ ghost use Rattle.std.specs.Prelude.{◌≡◌, ◌≤◌, OnOk, OnErr, IfOk};
 ghost use Rattle.ibx_base.specs.Counts.{HasCause};
 ghost use Rattle.ibx_base.specs.Sinks.{with_more, TookPrefix};
 ghost use Rattle.ibx_trace.specs.Lines.{line_of, end_line_of};
-ghost use Rattle.ibx_step.specs.Machines.{state_of, IsPrintable};
-ghost use Rattle.ibx_top.specs.Stories.{story, halts as halts_of};
+ghost use Rattle.ibx_arch.specs.Laws.{IsAligned};
+ghost use Rattle.ibx_step.specs.Machines.{state_of};
+ghost use Rattle.ibx_isa.specs.Events.{IsPrintable};
+ghost use Rattle.ibx_story.specs.Stories.{story_from};
 ghost use Rattle.ibx_top.specs.Texts.{story_text};
 
 use ibx_base::{Failed, Sink, write_all};
 use ibx_isa::Event;
 use ibx_step::Machine;
+use ibx_story::{StoryEnd, halts};
 use ibx_trace::{end_line, line};
-
-/// How a run ended.
-#[derive(Clone, Copy)]
-pub(crate) enum Ending {
-    /// By a store to the host that halts.
-    Halted,
-    /// By its budget.
-    Spent,
-    /// Before a step that the machine can't take yet.
-    NotBuilt,
-}
-
-/// The byte address of the host page to which a word with bit 0 set is stored to halt (our own rule).
-const HALT: u32 = 0x0002_0008;
-
-/// Whether an event ends the run: a word with bit 0 set was stored to the host's halting address.
-fn halts(event: &Event) -> bool
-    ensures { result ≡ halts_of event.now }
-{
-    match *event {
-        Event::Retire {
-            mem: Some(access),
-            ..
-        } => access.store && access.size == 4 && access.addr == HALT && access.value % 2 == 1,
-        _ => false,
-    }
-}
 
 /// Writes the line of an event.
 fn print_event<K: Sink>(event: &Event, out: &mut K) -> Result<(), Failed>
@@ -68,25 +44,26 @@ pub(crate) fn run<K: Sink>(
     machine: &mut Machine,
     cycles: u64,
     out: &mut K,
-) -> Result<Ending, Failed>
-    requires { cycles ≤ 1000000000 }
+) -> Result<StoryEnd, Failed>
+    requires budget { cycles ≤ 1000000000 }
+    requires aligned { IsAligned (state_of machine.old) }
     ensures whole { OnOk result
-        (K.taken out.new ≡ with_more (K.taken out.old) (story_text cycles (story cycles (state_of machine.old) 0))) }
-    ensures ending { IfOk result (λ ending. ending ≡ (story cycles (state_of machine.old) 0).ending) }
+        (K.taken out.new ≡ with_more (K.taken out.old) (story_text cycles (story_from cycles (state_of machine.old) 0))) }
+    ensures ending { IfOk result (λ ending. ending ≡ (story_from cycles (state_of machine.old) 0).ending) }
     ensures prefix { OnErr result
-        (TookPrefix (K.taken out.old) (story_text cycles (story cycles (state_of machine.old) 0)) (K.taken out.new)) }
+        (TookPrefix (K.taken out.old) (story_text cycles (story_from cycles (state_of machine.old) 0)) (K.taken out.new)) }
     ensures cause { HasCause (K.faults out.old) (K.faults out.new) result }
 {
     for index in 0..cycles {
         let Some(event) = machine.step(index) else {
-            return Ok(Ending::NotBuilt);
+            return Ok(StoryEnd::NotBuilt);
         };
         print_event(&event, out)?;
         if halts(&event) {
             print_end(true, index + 1, index + 1, out)?;
-            return Ok(Ending::Halted);
+            return Ok(StoryEnd::Halted);
         }
     }
     print_end(false, cycles, cycles, out)?;
-    Ok(Ending::Spent)
+    Ok(StoryEnd::Spent)
 }

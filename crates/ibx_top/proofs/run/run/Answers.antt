@@ -9,6 +9,7 @@ use Rattle.ibx_top.proofs.run.run.Goals as goal
 pub loop-index-init : goal.loop-index-init
 loop-index-init g c = record {
   run = starts c.args.cycles (state_of c.args.machine.now) (g.K.Sink.taken c.args.out.now);
+  aligned = c.requires.aligned;
   faults = omega arith;
 }
 
@@ -59,6 +60,7 @@ loop-index-preserved g c =
     let some = step_some s (state_of c.step.new.self) (present_step s c.loop-index.index) c.in-Some.event c.in-Some.ensures.stepped in
     record {
       run = goes_on c.loop-index.invariant.run c.loop-index-test.true some (sym c.halts.ensures ∙ c.if-halts.false) c.in_ok-print_event.ensures.whole;
+      aligned = c.in-Some.ensures.aligned;
       faults = omega (arith, c.loop-index.invariant.faults, c.in_ok-print_event.ensures.cause.never_falls);
     }
 

@@ -1,0 +1,97 @@
+//! How a call ends, and its report: the status, and the line on the error output.
+ghost use Rattle.std.specs.Prelude.{◌≡◌, [], ◌∷◌, ◌++◌, OnOk, OnErr};
+ghost use Rattle.ibx_base.specs.Counts.{HasCause};
+ghost use Rattle.ibx_base.specs.Sinks.{with_more, TookPrefix};
+ghost use Rattle.ibx_top.specs.Answers.{IsOneOf, Says};
+ghost use Rattle.ibx_top.specs.Outcomes.{code_of as code_of_lem, err_line_of};
+
+use crate::faults::fault_text;
+use ibx_base::{Failed, Sink, Status, write_all};
+use ibx_elf::ElfFault;
+use ibx_story::StoryEnd;
+
+/// How a call ends. Names are those of files.
+#[derive(Clone, Copy)]
+pub(crate) enum Outcome<'w> {
+    /// The machine ran.
+    Ran(StoryEnd),
+    /// The words don't fit the grammar.
+    BadWords,
+    /// This file can't be read.
+    CannotRead(&'w str),
+    /// The output can't be written.
+    CannotWrite,
+    /// This file has too many bytes.
+    TooLong(&'w str),
+    /// This file isn't a program for the machine.
+    Refused(&'w str, ElfFault),
+    /// There was no memory.
+    OutOfMemory,
+}
+
+/// Writes a line of three parts. After `Failed`, which comes only where the sink counted a fault, a prefix of it was
+/// taken.
+fn write_parts<E: Sink>(err: &mut E, front: &str, middle: &str, back: &str) -> Result<(), Failed>
+    ensures whole { OnOk result
+        (E.taken err.new ≡ with_more (E.taken err.old) (front.now ++ middle.now ++ back.now)) }
+    ensures prefix { OnErr result
+        (TookPrefix (E.taken err.old) (front.now ++ middle.now ++ back.now) (E.taken err.new)) }
+    ensures cause { HasCause (E.faults err.old) (E.faults err.new) result }
+{
+    write_all(err, front.as_bytes())?;
+    write_all(err, middle.as_bytes())?;
+    write_all(err, back.as_bytes())
+}
+
+/// Writes the line of an outcome.
+fn write_line<E: Sink>(err: &mut E, outcome: Outcome<'_>) -> Result<(), Failed>
+    ensures whole { OnOk result (E.taken err.new ≡ with_more (E.taken err.old) (err_line_of outcome.entry)) }
+    ensures prefix { OnErr result (TookPrefix (E.taken err.old) (err_line_of outcome.entry) (E.taken err.new)) }
+    ensures cause { HasCause (E.faults err.old) (E.faults err.new) result }
+    ensures quiet { IsOneOf (0 ∷ 1 ∷ []) (code_of_lem outcome.entry) → err.new ≡ err.old }
+{
+    match outcome {
+        Outcome::Ran(StoryEnd::Halted | StoryEnd::Spent) => Ok(()),
+        Outcome::Ran(StoryEnd::NotBuilt) => write_all(err, b"ibex: not built\n"),
+        Outcome::BadWords => write_all(err, b"ibex: bad words\n"),
+        Outcome::CannotRead(name) => write_parts(err, "ibex: cannot read ", name, "\n"),
+        Outcome::CannotWrite => write_all(err, b"ibex: cannot write\n"),
+        Outcome::TooLong(name) => write_parts(err, "ibex: ", name, ": too long\n"),
+        Outcome::Refused(name, fault) => {
+            let text = fault_text(fault);
+            write_parts(err, "ibex: ", name, text.as_str())
+        }
+        Outcome::OutOfMemory => write_all(err, b"ibex: out of memory\n"),
+    }
+}
+
+/// The status of an outcome.
+fn code_of(outcome: Outcome<'_>) -> u8
+    ensures { result ≡ code_of_lem outcome.entry }
+{
+    match outcome {
+        Outcome::Ran(StoryEnd::Halted) => 0,
+        Outcome::Ran(StoryEnd::Spent) => 1,
+        Outcome::Ran(StoryEnd::NotBuilt) => 10,
+        Outcome::BadWords => 2,
+        Outcome::CannotRead(_) => 3,
+        Outcome::CannotWrite => 4,
+        Outcome::TooLong(_) | Outcome::Refused(_, _) => 5,
+        Outcome::OutOfMemory => 7,
+    }
+}
+
+/// Reports an outcome. A fault of the error output changes nothing else.
+pub(crate) fn report<E: Sink>(err: &mut E, outcome: Outcome<'_>) -> Status
+    ensures code { result.code ≡ code_of_lem outcome.entry }
+    ensures seal { result.seal ≡ 0 }
+    ensures line { Says (E.taken err.old) (E.taken err.new) (E.faults err.old) (E.faults err.new)
+        (err_line_of outcome.entry) }
+    ensures quiet { IsOneOf (0 ∷ 1 ∷ []) (code_of_lem outcome.entry) → err.new ≡ err.old }
+{
+    let _ = write_line(err, outcome);
+    Status {
+        code: code_of(outcome),
+        seal: 0,
+    }
+}

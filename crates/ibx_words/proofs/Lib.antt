@@ -1,3 +1,0 @@
-pub mod Rams
-pub mod Pieces
-pub mod Steps
