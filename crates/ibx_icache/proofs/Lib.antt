@@ -1,0 +1,6 @@
+pub mod Answered
+pub mod Lookups
+pub mod Runs
+pub mod States
+pub mod Written
+pub mod Driven

@@ -1,0 +1,75 @@
+-- What a turn holds is within the widths where the state is.
+use Rattle.std.proofs.Common.{◌≡◌, ℕ, ◌+◌, ◌<◌, ◌^◌, Bool, true, false, if◌then◌else◌, nat_lt, nat_le, ◌==◌, ◌||◌, Option, Some, None, sym, ◌∙◌, subst, arith}
+use Rattle.std.proofs.lemmas.Bool.Decides.{nat_tests}
+use Rattle.ibx_isa.specs.declared.insn.Insn.{Insn}
+use Rattle.ibx_isa.specs.declared.insn.Insn.TheVariants.{Lui, Auipc, Jal, Jalr, Branch, Load, Store, AluImm, Alu, MulDiv, Csr, Fence, FenceI, Ecall, Ebreak, Mret, Wfi}
+use Rattle.ibx_isa.specs.Alu.{branch_of}
+use Rattle.ibx_id.specs.declared.stage.IdState.{IdState}
+use Rattle.ibx_id.specs.declared.stage.IdIn.{IdIn}
+use Rattle.ibx_id.specs.declared.stage.Turn.{Turn}
+use Rattle.ibx_id.specs.declared.stage.Turn.TheVariants.{Hold, Retire, Trap}
+use Rattle.ibx_id.specs.Turns.{IsWithinWidths, held, ends_at, branches, worked, is_some_cause, real_turn}
+
+-- the state that a turn holds, if any, is within the widths where this one is
+abbrev Keeps : IdState → Turn → Type 0
+Keeps st turn = (next : IdState) → turn ≡ Hold next → IsWithinWidths st → IsWithinWidths next
+
+count_fits : (n : ℕ) → (if nat_lt n 63 then n + 1 else 63) < 2 ^ 6
+count_fits n = grind (arith, nat_tests)
+
+pub held_fits : (st : IdState) (phase : ℕ) → phase < 2 ^ 3 → IsWithinWidths st → IsWithinWidths (held phase st)
+held_fits st phase h w = record { kind = w.kind; pc = w.pc; word = w.word; fault = w.fault; phase = h; count = count_fits st.count }
+
+holds : (st : IdState) (phase : ℕ) → phase < 2 ^ 3 → Keeps st (Hold (held phase st))
+holds st phase h next e w =
+    let same : held phase st ≡ next = cc in
+    subst IsWithinWidths same (held_fits st phase h w)
+
+either : (st : IdState) (b : Bool) (x y : Turn) → Keeps st x → Keeps st y → Keeps st (if b then x else y)
+either st true x y kx ky = kx
+either st false x y kx ky = ky
+
+ends : (st : IdState) (cost : ℕ) (redirect : Bool) → Keeps st (ends_at cost redirect st)
+ends st cost redirect = either st (nat_le cost st.count) (Retire redirect) (Hold (held 1 st)) (λ next e w. cc) (holds st 1 (omega arith))
+
+awaits : (st : IdState) (done : Bool) → Keeps st (if done then Retire false else Hold (held 1 st))
+awaits st done = either st done (Retire false) (Hold (held 1 st)) (λ next e w. cc) (holds st 1 (omega arith))
+
+branched : (st : IdState) (took : Bool) → Keeps st (branches took st)
+branched st true = ends st 1 true
+branched st false = ends st 0 false
+
+works : (insn : Option Insn) (st : IdState) (i : IdIn) → Keeps st (worked insn st i)
+unfolding worked
+works (Some (Lui rd imm)) st i = ends st i.cost false
+works (Some (Auipc rd imm)) st i = ends st i.cost false
+works (Some (Jal rd imm)) st i = λ next e w. cc
+works (Some (Jalr rd rs1 imm)) st i = λ next e w. cc
+works (Some (Branch op rs1 rs2 imm)) st i = branched st (i.fixed || branch_of op i.a i.b)
+works (Some (Load op rd rs1 imm)) st i = awaits st i.ls_done
+works (Some (Store size rs1 rs2 imm)) st i = awaits st i.ls_done
+works (Some (AluImm op rd rs1 imm)) st i = ends st i.cost false
+works (Some (Alu op rd rs1 rs2)) st i = ends st i.cost false
+works (Some (MulDiv op rd rs1 rs2)) st i = ends st i.cost false
+works (Some (Csr op rd src imm addr)) st i = ends st i.cost false
+works (Some Fence) st i = ends st i.cost false
+works (Some FenceI) st i = λ next e w. cc
+works (Some Ecall) st i = ends st i.cost false
+works (Some Ebreak) st i = ends st i.cost false
+works (Some Mret) st i = ends st 1 true
+works (Some Wfi) st i = awaits st i.wake
+works None st i = ends st i.cost false
+
+reals : (st : IdState) (i : IdIn) → Keeps st (real_turn st i)
+unfolding real_turn
+reals st i =
+    either st (st.phase == 2) (Trap 1) _ (λ next e w. cc)
+    (either st (st.phase == 3) (Trap 2) _ (λ next e w. cc)
+    (either st (nat_le 4 st.phase) (Trap 0) _ (λ next e w. cc)
+    (either st (i.ls_fault == 1) (Hold (held 2 st)) _ (holds st 2 (omega arith))
+    (either st (i.ls_fault == 2) (Hold (held 3 st)) _ (holds st 3 (omega arith))
+    (either st (is_some_cause i.trap) (Hold (held 4 st)) (worked i.insn st i) (holds st 4 (omega arith))
+    (works i.insn st i))))))
+
+pub real_fits : (st : IdState) (i : IdIn) (turn : Turn) (next : IdState) → turn ≡ real_turn st i → turn ≡ Hold next → IsWithinWidths st → IsWithinWidths next
+real_fits st i turn next is e w = reals st i next (sym is ∙ e) w

@@ -1,0 +1,3 @@
+pub mod Lockstep
+pub mod Pairs
+pub mod Rings

@@ -1,0 +1,5 @@
+pub mod Lending
+pub mod Lockstep
+pub mod Paired
+pub mod Rings
+pub mod Seen

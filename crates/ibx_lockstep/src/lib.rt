@@ -1,0 +1,14 @@
+//! Two cores in lockstep: the shadow runs two cycles behind main, by main's own inputs, and a comparator tells where the
+//! shadow's output isn't the one that main gave then.
+#![tactic(auto)]
+
+mod core_step;
+mod pair;
+mod ring;
+mod slots;
+#[cfg(test)]
+mod tests;
+
+pub use core_step::CoreStep;
+pub use pair::Pair;
+pub use ring::Ring;

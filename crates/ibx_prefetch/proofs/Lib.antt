@@ -1,0 +1,4 @@
+pub mod Requests
+pub mod Queue
+pub mod Order
+pub mod Drops
