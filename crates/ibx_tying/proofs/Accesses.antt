@@ -1,0 +1,109 @@
+-- Every access is of 1, 2 or 4 bytes, and every source is a register.
+use Rattle.std.proofs.Common.{◌≡◌, ℕ, ◌+◌, ◌%◌, ◌^◌, ◌<◌, ◌≤◌, Bool, true, false, refl, sym, subst, arith, inl, inr, Option, Some, None}
+use Rattle.std.specs.Prelude.{IfSome, if◌then◌else◌}
+use Rattle.std.specs.Option.{option_and_then}
+use Rattle.ibx_isa.specs.declared.insn.Insn.{Insn}
+use Rattle.ibx_isa.specs.declared.insn.Insn.TheVariants.{Lui, Auipc, Jal, Jalr, Branch, Load, Store, AluImm, Alu, MulDiv, Csr, Fence, FenceI, Ecall, Ebreak, Mret, Wfi}
+use Rattle.ibx_isa.specs.declared.insn.LoadOp.{LoadOp}
+use Rattle.ibx_isa.specs.declared.insn.LoadOp.TheVariants.{Lb, Lh, Lw, Lbu, Lhu}
+use Rattle.ibx_isa.specs.declared.event.Access.{Access}
+use Rattle.ibx_isa.specs.WellFormed.{IsAccessSize}
+use Rattle.ibx_decoder.specs.Rows.{rows, decode_of, rs1, rs2}
+use Rattle.ibx_decoder.specs.Compressed.{expand_of}
+use Rattle.ibx_decoder.proofs.OneRow.{AllGive, given}
+use Rattle.ibx_arch.specs.State.{State, reg}
+use Rattle.ibx_arch.specs.Step.{Choice}
+use Rattle.ibx_isa.specs.Sources.{source1, source2}
+use Rattle.ibx_decoder.specs.Instructions.{instruction_of}
+use Rattle.ibx_isa.specs.Lengths.{is_long}
+use Rattle.ibx_isa.specs.Portions.{size_of}
+use Rattle.ibx_time.specs.Settings.{Setup}
+use Rattle.ibx_time.specs.Memories.{access_of}
+use Rattle.ibx_time.specs.History.{Story, access_at, access_by, choice_at, view_with}
+use Rattle.ibx_joining.proofs.Stages.{IsAccess}
+use Rattle.ibx_joining.proofs.ArchSide.{ArchAccesses}
+
+-- a store's size, and the registers that an instruction reads
+abbrev pub HasSize : Insn → Type 0
+HasSize (Store size rs1 rs2 imm) = IsAccessSize size
+HasSize _ = Unit {0}
+
+abbrev pub IsNamed : Insn → Type 0
+IsNamed insn = HasSize insn × (source1 insn < 32) × (source2 insn < 32)
+
+named_rows : (w : ℕ) → AllGive w IsNamed rows
+named_rows w =
+    let a : rs1 w < 32 = omega arith in
+    let b : rs2 w < 32 = omega arith in
+    let z : 0 < 32 = omega arith in
+    (λ _. (tt, z, z), (λ _. (tt, z, z), (λ _. (tt, z, z), (λ _. (tt, a, z), (λ _. (tt, a, b), (λ _. (tt, a, b), (λ _. (tt, a, b), (λ _. (tt, a, b), (λ _. (tt, a, b), (λ _. (tt, a, b), (λ _. (tt, a, z), (λ _. (tt, a, z), (λ _. (tt, a, z), (λ _. (tt, a, z), (λ _. (tt, a, z), (λ _. (inl refl, a, b), (λ _. (inr (inl refl), a, b), (λ _. (inr (inr refl), a, b), (λ _. (tt, a, z), (λ _. (tt, a, z), (λ _. (tt, a, z), (λ _. (tt, a, z), (λ _. (tt, a, z), (λ _. (tt, a, z), (λ _. (tt, a, z), (λ _. (tt, a, z), (λ _. (tt, a, z), (λ _. (tt, a, b), (λ _. (tt, a, b), (λ _. (tt, a, b), (λ _. (tt, a, b), (λ _. (tt, a, b), (λ _. (tt, a, b), (λ _. (tt, a, b), (λ _. (tt, a, b), (λ _. (tt, a, b), (λ _. (tt, a, b), (λ _. (tt, a, b), (λ _. (tt, a, b), (λ _. (tt, a, b), (λ _. (tt, a, b), (λ _. (tt, a, b), (λ _. (tt, a, b), (λ _. (tt, a, b), (λ _. (tt, a, b), (λ _. (tt, z, z), (λ _. (tt, z, z), (λ _. (tt, a, z), (λ _. (tt, a, z), (λ _. (tt, a, z), (λ _. (tt, z, z), (λ _. (tt, z, z), (λ _. (tt, z, z), (λ _. (tt, z, z), (λ _. (tt, z, z), (λ _. (tt, z, z), (λ _. (tt, z, z), tt)))))))))))))))))))))))))))))))))))))))))))))))))))))))))
+
+named_decoded : (w : ℕ) → IfSome (decode_of w) IsNamed
+unfolding decode_of
+named_decoded w = given w IsNamed rows (named_rows w)
+
+named_expanded : (o : Option ℕ) → IfSome (option_and_then decode_of o) IsNamed
+named_expanded None = tt
+named_expanded (Some w) = named_decoded w
+
+named_by : (long : Bool) (word : ℕ) → IfSome (if long then decode_of word else option_and_then decode_of (expand_of word)) IsNamed
+named_by true word = named_decoded word
+named_by false word = named_expanded (expand_of word)
+
+pub named : (word : ℕ) → IfSome (instruction_of word) IsNamed
+unfolding instruction_of
+named word = named_by (is_long word) word
+
+-- ---- the access of an instruction
+
+same : {A : Type 0} (x y : A) → Some x ≡ Some y → x ≡ y
+same x y e = cc
+
+load_size : (op : LoadOp) → (0 < size_of op) × (size_of op ≤ 4)
+load_size Lb = (omega arith, omega arith)
+load_size Lh = (omega arith, omega arith)
+load_size Lw = (omega arith, omega arith)
+load_size Lbu = (omega arith, omega arith)
+load_size Lhu = (omega arith, omega arith)
+
+loads_are : (op : LoadOp) (a : ℕ) → IsAccess (record { addr = a % 2 ^ 32; size = size_of op; store = false; value = 0 })
+loads_are op a = record { addr = omega arith; some = (load_size op).0; most = (load_size op).1; value = omega arith }
+
+stores_are : (size a v : ℕ) → IsAccessSize size → IsAccess (record { addr = a % 2 ^ 32; size = size; store = true; value = v % 256 ^ size })
+stores_are size a v (inl e) = subst (λ n. IsAccess (record { addr = a % 2 ^ 32; size = n; store = true; value = v % 256 ^ n })) (sym e) (record { addr = omega arith; some = omega arith; most = omega arith; value = omega arith })
+stores_are size a v (inr (inl e)) = subst (λ n. IsAccess (record { addr = a % 2 ^ 32; size = n; store = true; value = v % 256 ^ n })) (sym e) (record { addr = omega arith; some = omega arith; most = omega arith; value = omega arith })
+stores_are size a v (inr (inr e)) = subst (λ n. IsAccess (record { addr = a % 2 ^ 32; size = n; store = true; value = v % 256 ^ n })) (sym e) (record { addr = omega arith; some = omega arith; most = omega arith; value = omega arith })
+
+no_access : (w : Access) → None ≡ Some w → IsAccess w
+no_access w e = absurd cc
+
+access_row : (s : State) (insn : Insn) → IsNamed insn → (w : Access) → access_of s (Some insn) ≡ Some w → IsAccess w
+access_row s (Load op rd rs1 imm) n w e = subst IsAccess (same (record { addr = (reg s rs1 + imm) % 2 ^ 32; size = size_of op; store = false; value = 0 }) w e) (loads_are op (reg s rs1 + imm))
+access_row s (Store size rs1 rs2 imm) n w e = subst IsAccess (same (record { addr = (reg s rs1 + imm) % 2 ^ 32; size = size; store = true; value = reg s rs2 % 256 ^ size }) w e) (stores_are size (reg s rs1 + imm) (reg s rs2) n.0)
+access_row s (Lui rd imm) n w e = no_access w e
+access_row s (Auipc rd imm) n w e = no_access w e
+access_row s (Jal rd imm) n w e = no_access w e
+access_row s (Jalr rd rs1 imm) n w e = no_access w e
+access_row s (Branch op rs1 rs2 imm) n w e = no_access w e
+access_row s (AluImm op rd rs1 imm) n w e = no_access w e
+access_row s (Alu op rd rs1 rs2) n w e = no_access w e
+access_row s (MulDiv op rd rs1 rs2) n w e = no_access w e
+access_row s (Csr op rd src imm addr) n w e = no_access w e
+access_row s Fence n w e = no_access w e
+access_row s FenceI n w e = no_access w e
+access_row s Ecall n w e = no_access w e
+access_row s Ebreak n w e = no_access w e
+access_row s Mret n w e = no_access w e
+access_row s Wfi n w e = no_access w e
+
+access_some : (s : State) (o : Option Insn) → IfSome o IsNamed → (w : Access) → access_of s o ≡ Some w → IsAccess w
+access_some s None n w e = no_access w e
+access_some s (Some insn) n w e = access_row s insn n w e
+
+access_chosen : (s : Setup) (h : Story) (o : Option Choice) (w : Access) → access_by s h o ≡ Some w → IsAccess w
+access_chosen s h None w e = no_access w e
+access_chosen s h (Some choice) w e = access_some h.state (instruction_of (view_with s h choice).word) (named (view_with s h choice).word) w e
+
+pub arch_accesses : (s : Setup) → ArchAccesses s
+unfolding access_at
+arch_accesses s t h w e = access_chosen s h (choice_at s t h) w e
