@@ -1,0 +1,254 @@
+-- Flips, runs with one flip, and what is promised of them.
+use Rattle.std.specs.Prelude.{◌≡◌, ℕ, zero, suc, ◌+◌, ◌-◌, ◌<◌, ◌≤◌, ◌^◌, Bool, true, false, not, ◌&&◌, ◌||◌, nat_le, ◌==◌, if◌then◌else◌, List, All, length, slice_index, slice_set, Option, Some, None, bit_xor}
+use Rattle.ibx_isa.specs.declared.bus.Req.{Req}
+use Rattle.ibx_plan.specs.declared.site.Site.{Site}
+use Rattle.ibx_plan.specs.declared.site.Site.TheVariants as site
+use Rattle.ibx_plan.specs.declared.site.Flip.{Flip}
+use Rattle.ibx_bus.specs.Memory.{MemoryState, memory_flip, is_store, memory_has, index_of}
+use Rattle.ibx_bus.specs.Port.{answers, port_flip}
+use Rattle.ibx_flips.specs.declared.wires.In.{In}
+use Rattle.ibx_flips.specs.declared.wires.Out.{Out}
+use Rattle.ibx_flips.specs.Core.{Parts, bad_word, bad_tag_word, takes0, takes1}
+use Rattle.ibx_flips.specs.System.{Place, Whole, tag_index, line_index, set_of, half_of, look, writes_register, writes_way, igrant_of, dgrant_of, fetch_of, load_store_of, next, output_of, same_bus, alarm}
+
+-- whether the place is a word of the memories, the ports or the core's input
+abbrev pub IsWord : Site → Bool
+IsWord (site.Main field bit) = false
+IsWord (site.Shadow field bit) = false
+IsWord (site.Delay slot wire bit) = false
+IsWord _ = true
+
+-- whether there is such a bit
+abbrev pub Fits : Site → Place → Type 0
+Fits (site.Reg n bit) e = (0 < n) × (n < length e.registers) × (bit < 39)
+Fits (site.Tag set way bit) e = (tag_index set way < length e.tags) × (bit < 28)
+Fits (site.Line set way half bit) e = (line_index set way half < length e.lines) × (bit < 39)
+Fits (site.Output wire bit) e = (wire < 6) × (bit < (if (wire == 2) || (wire == 3) then 28 else 39))
+Fits (site.Answer port bit) e = (port < 2) × (bit < 39)
+Fits (site.Mem word bit) e = (word < length e.memory.words) × (bit < 39)
+Fits _ e = Unit {0}
+
+-- the words with one bit changed
+abbrev pub with_flip : List ℕ → ℕ → ℕ → List ℕ
+with_flip words n bit = slice_set words n (bit_xor (slice_index words n) (2 ^ bit))
+
+-- the words after a flip in them
+unfoldable pub place_flip : Site → Place → Place
+place_flip (site.Reg n bit) e = record e { registers = with_flip e.registers n bit }
+place_flip (site.Tag set way bit) e = record e { tags = with_flip e.tags (tag_index set way) bit }
+place_flip (site.Line set way half bit) e = record e { lines = with_flip e.lines (line_index set way half) bit }
+place_flip (site.Output wire bit) e = record e { pending = Some (wire, bit) }
+place_flip (site.Answer port bit) e = if port == 0 then record e { iport = port_flip e.iport bit } else record e { dport = port_flip e.dport bit }
+place_flip (site.Mem word bit) e = record e { memory = memory_flip e.memory word bit }
+place_flip _ e = e
+
+module _ {S : Type 0} (p : Parts S) where
+  -- a wire of a delayed pair, or the age
+  abbrev pub delay_flip : Bool → Bool → ℕ → ℕ → Whole S → Whole S
+  delay_flip true oldest wire bit w = record w { age = bit_xor w.age (2 ^ bit) }
+  delay_flip false true wire bit w = record w { older = p.flip_pair wire bit w.older }
+  delay_flip false false wire bit w = record w { newer = p.flip_pair wire bit w.newer }
+
+  -- the system after a flip
+  unfoldable pub flip : Site → Whole S → Whole S
+  flip (site.Main field bit) w = record w { main = p.flip_field field bit w.main }
+  flip (site.Shadow field bit) w = record w { shadow = p.flip_field field bit w.shadow }
+  flip (site.Delay slot wire bit) w = delay_flip (wire == 36) (slot == 0) wire bit w
+  flip x w = record w { place = place_flip x w.place }
+
+-- 32 registers, 256 sets of two ways with two data words each, all words codewords, and no pending flip
+pub record Codewords (e : Place) : Type 0 where
+  pub count : (length e.registers ≡ 32) × (length e.tags ≡ 512) × (length e.lines ≡ 1024)
+  pub registers : All (λ w. bad_word w ≡ false) e.registers
+  pub tags : All (λ w. bad_tag_word w ≡ false) e.tags
+  pub lines : All (λ w. bad_word w ≡ false) e.lines
+  pub memory : All (λ w. bad_word w ≡ false) e.memory.words
+  pub ianswer : bad_word e.iport.word ≡ false
+  pub danswer : bad_word e.dport.word ≡ false
+  pub pending : e.pending ≡ None
+
+-- the least number from t on, among so many, that passes a test
+unfoldable pub first_from : ℕ → (ℕ → Bool) → ℕ → Option ℕ
+first_from zero test t = None
+first_from (suc n) test t = if test t then Some t else first_from n test (t + 1)
+
+-- ---- where the changed word and its copies are, and when they are used
+
+pub record Marks : Type 0 where
+  pub register : Bool
+  pub tag : Bool
+  pub line : Bool
+  pub shown : Bool
+  pub stored : Bool
+  pub icopy : Bool
+  pub dcopy : Bool
+
+-- the number of the word in its memory, and of the output word
+pub record Spot : Type 0 where
+  pub register : ℕ
+  pub tag : ℕ
+  pub line : ℕ
+  pub wire : ℕ
+  pub word : ℕ
+
+-- no word is changed
+abbrev pub no_marks : Marks
+no_marks = record { register = false; tag = false; line = false; shown = false; stored = false; icopy = false; dcopy = false }
+
+-- the number of the word that a site names
+abbrev pub spot_of : Site → Spot
+spot_of (site.Reg n bit) = record { register = n; tag = 0; line = 0; wire = 0; word = 0 }
+spot_of (site.Tag set way bit) = record { register = 0; tag = tag_index set way; line = 0; wire = 0; word = 0 }
+spot_of (site.Line set way half bit) = record { register = 0; tag = 0; line = line_index set way half; wire = 0; word = 0 }
+spot_of (site.Output wire bit) = record { register = 0; tag = 0; line = 0; wire = wire; word = 0 }
+spot_of (site.Mem word bit) = record { register = 0; tag = 0; line = 0; wire = 0; word = word }
+spot_of _ = record { register = 0; tag = 0; line = 0; wire = 0; word = 0 }
+
+-- at the flip
+abbrev pub marks_of : Site → Marks
+marks_of (site.Reg n bit) = record no_marks { register = true }
+marks_of (site.Tag set way bit) = record no_marks { tag = true }
+marks_of (site.Line set way half bit) = record no_marks { line = true }
+marks_of (site.Output wire bit) = record no_marks { shown = true }
+marks_of (site.Answer port bit) = record no_marks { icopy = port == 0; dcopy = not (port == 0) }
+marks_of (site.Mem word bit) = record no_marks { stored = true }
+marks_of _ = no_marks
+
+-- which words of an input are the changed one
+pub record InMarks : Type 0 where
+  pub irsp : Bool
+  pub drsp : Bool
+  pub rega : Bool
+  pub regb : Bool
+  pub tag0 : Bool
+  pub tag1 : Bool
+  pub data0 : Bool
+  pub data1 : Bool
+
+-- whether a transaction reads this word
+abbrev pub reads_word : MemoryState → Req → ℕ → Bool
+reads_word m r k = (memory_has m r.addr && not r.write) && (index_of m r.addr == k)
+
+-- a copy in a port after the cycle: a grant replaces it
+abbrev pub copy_after : Bool → Bool → Bool → MemoryState → Req → ℕ → Bool
+copy_after granted copy stored m r k = if granted then stored && reads_word m r k else copy
+
+module _ {S : Type 0} (p : Parts S) where
+  -- which words of the input are the changed one
+  unfoldable pub in_marks : Spot → Marks → Place → S → InMarks
+  in_marks k m e s =
+      let r = p.reads s in record {
+        irsp = m.icopy && answers e.iport;
+        drsp = m.dcopy && answers e.dport;
+        rega = (m.register && (r.ra == k.register)) || (m.shown && (k.wire == 0));
+        regb = (m.register && (r.rb == k.register)) || (m.shown && (k.wire == 1));
+        tag0 = (m.tag && (tag_index (set_of r.line) 0 == k.tag)) || (m.shown && (k.wire == 2));
+        tag1 = (m.tag && (tag_index (set_of r.line) 1 == k.tag)) || (m.shown && (k.wire == 3));
+        data0 = (m.line && (line_index (set_of r.line) 0 (half_of r.line) == k.line)) || (m.shown && (k.wire == 4));
+        data1 = (m.line && (line_index (set_of r.line) 1 (half_of r.line) == k.line)) || (m.shown && (k.wire == 5));
+      }
+
+  -- whether a used word is the changed one
+  unfoldable pub uses_marked : InMarks → S → In → Bool
+  uses_marked x s i =
+      x.irsp || (x.drsp || (x.rega || (x.regb || (
+      (p.looks s && x.tag0) || ((p.looks s && x.tag1) || (
+      (takes0 p s i.tag0 && x.data0) || (takes1 p s i.tag0 i.tag1 && x.data1)))))))
+
+  -- by the run without the flip
+  abbrev pub used : Spot → Marks → Whole S → Bool
+  used k m w = uses_marked (in_marks k m w.place w.main) w.main (look p w.place w.main)
+
+  -- a word that is written whole isn't the changed one any more; a merged store leaves it the changed one
+  unfoldable pub place_marks : Spot → Marks → Place → Out → Marks
+  place_marks k m e o = record {
+    register = m.register && not (writes_register o && (o.rwn == k.register));
+    tag = (m.tag && not (writes_way o.tways 0 && (tag_index o.tset 0 == k.tag))) && not (writes_way o.tways 1 && (tag_index o.tset 1 == k.tag));
+    line = (((m.line && not (writes_way o.dways 0 && (line_index o.tset 0 0 == k.line))) && not (writes_way o.dways 0 && (line_index o.tset 0 1 == k.line)))
+        && not (writes_way o.dways 1 && (line_index o.tset 1 0 == k.line))) && not (writes_way o.dways 1 && (line_index o.tset 1 1 == k.line));
+    shown = false;
+    stored = m.stored && not ((dgrant_of e o && is_store e.memory (load_store_of o)) && ((index_of e.memory o.daddr == k.word) && (o.dbe == 15)));
+    icopy = copy_after (igrant_of e o) m.icopy m.stored e.memory (fetch_of o) k.word;
+    dcopy = copy_after (dgrant_of e o) m.dcopy m.stored e.memory (load_store_of o) k.word;
+  }
+
+  -- the marks after a step of the run without the flip
+  abbrev pub marks_next : Spot → Marks → Whole S → Marks
+  marks_next k m w = place_marks k m w.place (output_of p w)
+
+  -- ---- runs
+
+  -- the flip is made just before the step of its cycle
+  abbrev pub made : Option (Flip) → Whole S → Whole S
+  made None w = w
+  made (Some f) w = if w.place.cycle == f.cycle then flip p f.site w else w
+
+  -- the system after so many steps
+  unfoldable pub run : Whole S → Option (Flip) → ℕ → Whole S
+  run w f zero = w
+  run w f (suc n) = run (next p (made f w)) f n
+
+  -- the state of which the step after n steps is made
+  abbrev pub before_step : Whole S → Option (Flip) → ℕ → Whole S
+  before_step w f n = made f (run w f n)
+
+  -- whether the bus differs between the run and the run with the flip, n cycles from the start
+  abbrev pub differs : Whole S → Flip → ℕ → Bool
+  differs w f n = not (same_bus (output_of p (before_step w None n)) (output_of p (before_step w (Some f) n)))
+
+  -- whether the run with the flip has an alert there
+  abbrev pub alarms : Whole S → Flip → ℕ → Bool
+  alarms w f n = alarm p (before_step w (Some f) n)
+
+  -- the first such cycle of a run, if there is one; alerts are looked for in two cycles more
+  abbrev pub first_diff : Whole S → Flip → ℕ → Option ℕ
+  first_diff w f cycles = first_from cycles (differs w f) 0
+
+  abbrev pub first_alert : Whole S → Flip → ℕ → Option ℕ
+  first_alert w f cycles = first_from (cycles + 2) (alarms w f) 0
+
+  -- the marks after n steps of the run without the flip, from the state of the flip on
+  unfoldable pub marks_from : Spot → Marks → Whole S → ℕ → Marks
+  marks_from k m w zero = m
+  marks_from k m w (suc n) = marks_from k (marks_next k m w) (next p w) n
+
+  -- whether the changed word is used, n cycles after the flip
+  abbrev pub uses_from : Spot → Marks → Whole S → ℕ → Bool
+  uses_from k m w n = used k (marks_from k m w n) (run w None n)
+
+  -- whether the changed word is used in cycle n of the run
+  abbrev pub uses : Whole S → Flip → ℕ → Bool
+  uses w f n = nat_le f.cycle n && uses_from (spot_of f.site) (marks_of f.site) (run w None f.cycle) (n - f.cycle)
+
+  -- the first such cycle of a run, if there is one
+  abbrev pub first_use : Whole S → Flip → ℕ → Option ℕ
+  first_use w f cycles = first_from cycles (uses w f) 0
+
+  -- ---- the first state, and the laws
+
+  -- equal cores, an empty delay, and codewords everywhere
+  pub record IsFirst (w : Whole S) : Type 0 where
+    pub cores : w.main ≡ w.shadow
+    pub age : w.age ≡ 0
+    pub cycle : w.place.cycle ≡ 0
+    pub words : Codewords w.place
+
+-- none, or an alert that comes at most two cycles later
+abbrev pub Bounded : Option ℕ → Option ℕ → Type 0
+Bounded None _ = Unit {0}
+Bounded (Some d) None = ⊥
+Bounded (Some d) (Some a) = a ≤ d + 2
+
+module _ {S : Type 0} (p : Parts S) where
+  -- an alert comes at most two cycles after the first difference of the bus
+  abbrev pub Noticed : Whole S → Flip → ℕ → Type 0
+  Noticed w f cycles = Bounded (first_diff p w f cycles) (first_alert p w f cycles)
+
+  -- the two runs agree before the first use, and there an alert comes
+  abbrev pub AgreesTo : Whole S → Flip → ℕ → Option ℕ → Type 0
+  AgreesTo w f cycles None = (n : ℕ) → n < cycles → differs p w f n ≡ false
+  AgreesTo w f cycles (Some u) = ((n : ℕ) → n < u → differs p w f n ≡ false) × (alarms p w f u ≡ true)
+
+  -- a word's flip changes nothing on the bus before its first use, and is told there
+  abbrev pub ToldByUse : Whole S → Flip → ℕ → Type 0
+  ToldByUse w f cycles = IsWord f.site ≡ true → AgreesTo w f cycles (first_use p w f cycles)
