@@ -1,0 +1,161 @@
+#!/usr/bin/env bash
+# Runs the program on real files and streams, once for each status that they give, and compares its status, its
+# standard output and its standard error with what they must be. Builds it first, over what the gate proved.
+# The last line is `statuses: N passed, M failed`.
+set -u
+cd "$(dirname "$0")/../crates/ibx_cli"
+if ! rt run -- run data/store.elf >/dev/null 2>&1; then
+    echo "statuses: the program isn't built, or its sample doesn't end with status 0"
+    echo "statuses: 0 passed, 1 failed"
+    exit 1
+fi
+ibex=$PWD/out/ibx_cli
+work=$(mktemp -d)
+trap 'rm -rf "$work"' EXIT
+cp data/store.elf "$work"
+cd "$work"
+mkdir folder
+
+# The sample's three instructions in other files: cut.elf is cut off within its file header, odd.elf begins at an odd
+# address, far.elf lies outside RAM, long.elf is one byte longer than a file may be, linked.elf is a file as a linker
+# leaves it, and many.elf has as many program headers as there can be.
+python3 - <<'PYTHON'
+import struct
+
+CODE = bytes.fromhex("370302009303100023247300")
+BASE = 0x00100080
+
+
+# Elf32_Ehdr (System V gABI, "ELF Header"): e_ident with the class, the byte order, the version, the OS ABI and its
+# version, and then the fields in their order.
+def file_header(entry, phnum, shoff=0, shnum=0, shstrndx=0, flags=0, os_abi=0):
+    ident = bytes([0x7F, ord("E"), ord("L"), ord("F"), 1, 1, 1, os_abi, 0]) + bytes(7)
+    return ident + struct.pack(
+        "<HHIIIIIHHHHHH", 2, 243, 1, entry, 52, shoff, flags, 52, 32, phnum, 40 if shnum else 0, shnum, shstrndx
+    )
+
+
+# Elf32_Phdr ("Program Header"): type, offset, virtual and physical address, bytes in the file and in memory, flags
+# (4 for reading, 2 for writing, 1 for execution) and alignment.
+def program_header(kind, offset, addr, file_bytes, memory_bytes, flags, align):
+    return struct.pack("<8I", kind, offset, addr, addr, file_bytes, memory_bytes, flags, align)
+
+
+# Elf32_Shdr ("Section Header"): name, type, flags, address, offset, size, link, info, alignment and entry size.
+def section_header(name, kind, flags, addr, offset, size, align):
+    return struct.pack("<10I", name, kind, flags, addr, offset, size, 0, 0, align, 0)
+
+
+def write(name, content):
+    with open(name, "wb") as file:
+        file.write(content)
+
+
+def one(entry, addr):
+    return file_header(entry, 1) + program_header(1, 84, addr, len(CODE), len(CODE), 7, 4) + CODE
+
+
+write("cut.elf", one(BASE, BASE)[:51])
+write("odd.elf", one(BASE + 1, BASE))
+write("far.elf", one(BASE, 0x00200000))
+with open("long.elf", "wb") as file:
+    file.truncate(32 * 1024 * 1024 + 1)
+
+# A PT_LOAD for the text with its stack reserved after it, a PT_NOTE (4) for the section .note.model, and a
+# PT_GNU_STACK (0x6474e551); e_flags 5 is RVC with the single-float ABI, and the OS ABI 3 is that of Linux.
+NOTE = struct.pack("<III", 4, 4, 1) + b"ibx\0" + struct.pack("<I", 7)
+NAMES = b"\0.text\0.note.model\0.shstrtab\0"
+text = 52 + 3 * 32
+note = text + len(CODE)
+names = note + len(NOTE)
+sections = (names + len(NAMES) + 3) // 4 * 4
+content = (
+    file_header(BASE, 3, sections, 4, 3, 5, 3)
+    + program_header(1, text, BASE, len(CODE), 4096, 5, 4)
+    + program_header(4, note, 0, len(NOTE), len(NOTE), 4, 4)
+    + program_header(0x6474E551, 0, 0, 0, 0, 6, 16)
+    + CODE
+    + NOTE
+    + NAMES
+)
+content += bytes(sections - len(content))
+content += section_header(0, 0, 0, 0, 0, 0, 0)
+content += section_header(NAMES.index(b".text"), 1, 6, BASE, text, len(CODE), 4)
+content += section_header(NAMES.index(b".note"), 7, 2, 0, note, len(NOTE), 4)
+content += section_header(NAMES.index(b".shstrtab"), 3, 0, 0, names, len(NAMES), 1)
+write("linked.elf", content)
+
+# 65,534 headers: the text, then one of memory alone and one of four file bytes in turn.
+COUNT = 65534
+end = 52 + 32 * COUNT
+headers = [program_header(1, end, BASE, len(CODE), len(CODE), 7, 4)]
+for i in range(1, COUNT):
+    headers.append(program_header(1, end, 0x00200000 + 4 * i, 4 * (i % 2), 4, 6, 4))
+write("many.elf", file_header(BASE, COUNT) + b"".join(headers) + CODE)
+PYTHON
+
+first="R 0 00100080 00020337 x06=00020000
+"
+steps="${first}R 1 00100084 00100393 x07=00000001
+R 2 00100088 00732423 m00020008=00000001/4
+"
+passed=0
+failed=0
+
+# Counts a row: its name, and the status, standard output and standard error that it must have; then the command.
+row() {
+    local name=$1 status=$2 out=$3 err=$4
+    shift 4
+    printf '%s' "$out" >wanted.out
+    printf '%s' "$err" >wanted.err
+    : >given.out
+    local given=0
+    "$@" >given.out 2>given.err || given=$?
+    if [ "$given" = "$status" ] && cmp -s given.out wanted.out && cmp -s given.err wanted.err; then
+        passed=$((passed + 1))
+    else
+        failed=$((failed + 1))
+        echo "statuses: $name: FAILED with status $given in place of $status"
+        diff wanted.out given.out
+        diff wanted.err given.err
+    fi
+}
+
+# Standard output is full, or closed.
+to_full() { "$ibex" "$@" >/dev/full; }
+to_closed() { "$ibex" "$@" >&-; }
+
+row "a halt" 0 "${steps}E halt 3 3
+" "" "$ibex" run store.elf
+row "a spent budget" 1 "${first}E budget 1 1
+" "" "$ibex" run store.elf --cycles 1
+row "no words" 2 "" "ibex: bad words
+" "$ibex"
+row "an empty word" 2 "" "ibex: bad words
+" "$ibex" ""
+row "a budget of 0" 2 "" "ibex: bad words
+" "$ibex" run store.elf --cycles 0
+row "a missing file" 3 "" "ibex: cannot read missing.elf
+" "$ibex" run missing.elf
+row "a folder" 3 "" "ibex: cannot read folder
+" "$ibex" run folder
+row "a full output" 4 "" "ibex: cannot write
+" to_full run store.elf
+row "a closed output" 4 "" "ibex: cannot write
+" to_closed run store.elf
+row "a file cut off" 5 "" "ibex: cut.elf: elf fault 1
+" "$ibex" run cut.elf
+row "a file outside RAM" 5 "" "ibex: far.elf: elf fault 11 0
+" "$ibex" run far.elf
+row "an odd entry" 5 "" "ibex: odd.elf: elf fault 13
+" "$ibex" run odd.elf
+row "a long file" 5 "" "ibex: long.elf: too long
+" "$ibex" run long.elf
+row "a word that isn't UTF-8" 13 "" "" "$ibex" run $'store\xff.elf'
+row "a linker's file" 0 "${steps}E halt 3 3
+" "" "$ibex" run linked.elf
+row "65,534 program headers" 0 "${steps}E halt 3 3
+" "" timeout 10 "$ibex" run many.elf --ram-size 0x1000000
+
+echo "statuses: $passed passed, $failed failed"
+[ "$failed" = 0 ]
