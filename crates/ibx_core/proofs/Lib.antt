@@ -1,0 +1,5 @@
+pub mod Bits
+pub mod Tags
+pub mod EqualFields
+pub mod Widths
+pub mod Laws

@@ -1,0 +1,235 @@
+-- The core: what a cycle comes to from the fields and the wires, in order, and the fields after it. Our own rule.
+use Rattle.std.specs.Prelude.{◌≡◌, ℕ, ◌+◌, ◌*◌, ◌%◌, ◌^◌, Bool, true, false, not, ◌&&◌, ◌||◌, ◌==◌, if◌then◌else◌, Option, Some, None, bit_and}
+use Rattle.ibx_isa.specs.declared.event.Access.{Access}
+use Rattle.ibx_isa.specs.declared.bus.Rsp.{Rsp}
+use Rattle.ibx_isa.specs.ControlBits.{icache_enable}
+use Rattle.ibx_secded.specs.Code.{encode_of, payload_of}
+use Rattle.ibx_csr.specs.Fields.{glitch_of}
+use Rattle.ibx_prefetch.specs.declared.buffer.WordAns.{WordAns}
+use Rattle.ibx_prefetch.specs.declared.buffer.Head.{Head}
+use Rattle.ibx_prefetch.specs.declared.buffer.Parcel.{Parcel}
+use Rattle.ibx_prefetch.specs.declared.buffer.Prefetch.{Prefetch}
+use Rattle.ibx_prefetch.specs.Buffer.{fetch_after_answer, head_of, prefetch_next, request_of}
+use Rattle.ibx_icache.specs.declared.lookup.Look.{Look}
+use Rattle.ibx_icache.specs.declared.port.WordPort.{WordPort}
+use Rattle.ibx_icache.specs.declared.wires.CacheOut.{CacheOut}
+use Rattle.ibx_icache.specs.WordPort.{WordIn, answer_of, has_bad, is_bad_word, looked, matches, out_of, word_port_next}
+use Rattle.ibx_muldiv.specs.declared.unit.MulDiv.{MulDiv}
+use Rattle.ibx_muldiv.specs.Unit.{idle_of, left_of, tick_of}
+use Rattle.ibx_lsu.specs.declared.unit.Lsu.{Lsu}
+use Rattle.ibx_lsu.specs.Turns.{next_of as ls_next}
+use Rattle.ibx_id.specs.declared.stage.Turn.{Turn}
+use Rattle.ibx_id.specs.declared.stage.Turn.TheVariants.{Hold}
+use Rattle.ibx_core.specs.declared.cycle.Cycle.{Cycle}
+use Rattle.ibx_core.specs.declared.effect.Effect.{Effect}
+use Rattle.ibx_core.specs.declared.reads.Reads.{Reads}
+use Rattle.ibx_core.specs.declared.sight.Sight.{Sight}
+use Rattle.ibx_core.specs.declared.state.State.{State}
+use Rattle.ibx_core.specs.Effects.{IsEffect, effect_by}
+use Rattle.ibx_core.specs.Entries.{IsEntry, admits_by}
+use Rattle.ibx_core.specs.Fields.{bit}
+use Rattle.ibx_core.specs.Sights.{IsSight, drsp_of, irsp_of, ra_of, rb_of, sight_of}
+use Rattle.ibx_core.specs.Wires.{InWires, OutWires}
+
+-- ---- what is read, and what of the wires is used
+
+-- the registers that are read, and the address at which the cache is read
+unfoldable pub reads_of : State → Reads
+reads_of x = record { ra = ra_of x.id; rb = rb_of x.id; line = looked x.words }
+
+-- a lookup, and whether the data word of way 0 or of way 1 is that of the lowest matching way
+abbrev pub looks : WordPort → Bool
+looks w = w.c_state == 1
+
+abbrev pub takes0 : WordPort → ℕ → Bool
+takes0 w tag0 = looks w && matches tag0 w.c_addr
+
+abbrev pub takes1 : WordPort → ℕ → ℕ → Bool
+takes1 w tag0 tag1 = looks w && (not (matches tag0 w.c_addr) && matches tag1 w.c_addr)
+
+-- The wires with 0 in place of each unused word: of an answer that isn't valid, of a tag where nothing is looked up, and of a data
+-- word where it isn't that of the lowest matching way.
+unfoldable pub heard : State → InWires → InWires
+heard x i = record i {
+  irsp_word = if i.irsp_valid then i.irsp_word else 0;
+  drsp_word = if i.drsp_valid then i.drsp_word else 0;
+  tag0 = if looks x.words then i.tag0 else 0;
+  tag1 = if looks x.words then i.tag1 else 0;
+  data0 = if takes0 x.words i.tag0 then i.data0 else 0;
+  data1 = if takes1 x.words i.tag0 i.tag1 then i.data1 else 0;
+}
+
+-- ---- the cycle
+
+-- the cache's words
+abbrev pub look_in : InWires → Look
+look_in i = record { tag0 = i.tag0; tag1 = i.tag1; data0 = i.data0; data1 = i.data1 }
+
+-- what the word port is handed; the cache is enabled as the events before this cycle left it
+unfoldable pub port_of : State → InWires → Option ℕ → Bool → WordIn
+port_of x i request fence = record { request = request; enable = not (bit_and x.csrs.cpuctrl icache_enable == 0); fence = fence; rsp = irsp_of i; look = look_in i }
+
+-- the next two parcels; in the cycle of a redirect none is ready
+abbrev pub no_parcel : Parcel
+no_parcel = record { ready = false; err = false; half = 0 }
+
+unfoldable pub head_by : Option ℕ → WordAns → Prefetch → Head
+head_by None ans f = head_of (fetch_after_answer ans None f)
+head_by (Some target) ans f = record { first = no_parcel; second = no_parcel }
+
+-- what the stage sees, what its turn leaves, the word that answers, what enters, and the word that is requested
+unfoldable pub cycle_with : Sight → Effect → WordAns → State → InWires → Cycle
+cycle_with g e ans x i = record {
+  sight = g;
+  effect = e;
+  ans = ans;
+  entry = admits_by g.turn (head_by e.redirect ans x.fetch) e i.lines;
+  request = request_of (fetch_after_answer ans e.redirect x.fetch);
+}
+
+unfoldable pub cycle_seen : Sight → State → InWires → Cycle
+cycle_seen g x i = cycle_with g (effect_by g.turn x g i.lines) (answer_of x.words (irsp_of i) (look_in i)) x i
+
+unfoldable pub cycle_of : State → InWires → Cycle
+cycle_of x i = cycle_seen (sight_of x i) x i
+
+-- what is known of a cycle by its types: of what the stage sees, of the effect and of what enters
+pub record IsCycle (x : State) (c : Cycle) : Type 0 where
+  pub sight : IsSight x c.sight
+  pub effect : IsEffect x c.effect
+  pub entry : IsEntry c.entry
+
+-- ---- the fields after it
+
+-- an operation goes on while its row is held
+unfoldable pub md_next : Turn → MulDiv → MulDiv
+md_next (Hold st) m = if left_of m == 0 then m else tick_of m
+md_next _ m = idle_of
+
+-- an access moves while it is active
+unfoldable pub ls_by : Bool → Option Access → Lsu → Rsp → Bool → Lsu
+ls_by true (Some w) ls rsp granted = ls_next ls w rsp granted
+ls_by active access ls rsp granted = ls
+
+unfoldable pub next_by : Cycle → State → InWires → State
+next_by c x i = record {
+  fetch = prefetch_next c.ans c.effect.redirect c.entry.taken x.fetch;
+  words = word_port_next x.words (port_of x i c.request c.effect.fence) i.igrant;
+  id = c.entry.id;
+  md = md_next c.sight.turn c.sight.md;
+  ls = ls_by c.sight.active c.sight.access x.ls (drsp_of i) i.dgrant;
+  dummies = c.entry.dummies;
+  next_pc = c.effect.next_pc;
+  csrs = c.effect.csrs;
+}
+
+unfoldable pub leaves : State → InWires → State
+leaves x i = next_by (cycle_of x i) x i
+
+-- CoreNext: the fields after a cycle
+unfoldable pub core_next : State → InWires → State
+core_next x i = leaves x (heard x i)
+
+-- ---- the alerts by their causes
+
+-- MINOR: a way that is looked up has a flipped bit
+abbrev pub is_minor : State → InWires → Bool
+is_minor x i = looks x.words && has_bad (look_in i) x.words.c_addr
+
+-- INTERNAL: a register word has a flipped bit, or the complement of a CSR isn't one
+abbrev pub is_internal : State → InWires → Bool
+is_internal x i = is_bad_word i.rega || is_bad_word i.regb || glitch_of x.csrs
+
+-- BUS: the word of an answer has a flipped bit
+abbrev pub is_flipped : Rsp → Bool
+is_flipped rsp = rsp.valid && is_bad_word rsp.word
+
+abbrev pub is_bus : InWires → Bool
+is_bus i = is_flipped (irsp_of i) || is_flipped (drsp_of i)
+
+-- the set of alerts: MINOR 1, INTERNAL 2, BUS 4
+unfoldable pub alerts_of : State → InWires → ℕ
+alerts_of x i = bit (is_minor x i) + 2 * bit (is_internal x i) + 4 * bit (is_bus i)
+
+-- ---- the wires
+
+-- the register that is written and its word
+abbrev pub is_write : Option (ℕ × ℕ) → Bool
+is_write (Some w) = true
+is_write None = false
+
+abbrev pub write_register : Option (ℕ × ℕ) → ℕ
+write_register (Some w) = w.0
+write_register None = 0
+
+unfoldable pub write_word : Option (ℕ × ℕ) → ℕ
+write_word (Some w) = encode_of 32 7 (w.1 % 2 ^ 32)
+write_word None = 0
+
+-- the ways whose tags are written, and their word: both with the codeword of 0 where a set is emptied
+abbrev pub tag_ways : CacheOut → ℕ
+tag_ways o = if o.clear then 3 else o.ways
+
+unfoldable pub tag_word : CacheOut → ℕ
+tag_word o = if o.clear then encode_of 22 6 0 else if o.ways == 0 then 0 else encode_of 22 6 (payload_of 22 o.tag)
+
+unfoldable pub out_with : CacheOut → ℕ → Reads → Cycle → OutWires
+out_with o alerts r c = record {
+  ireq = o.bus.valid;
+  iaddr = o.bus.addr;
+  dreq = c.sight.ls.req.valid;
+  dwe = c.sight.ls.req.write;
+  dbe = c.sight.ls.req.be;
+  daddr = c.sight.ls.req.addr;
+  dword = c.sight.ls.req.word;
+  ra = r.ra;
+  rb = r.rb;
+  rw = is_write c.effect.write;
+  rwn = write_register c.effect.write;
+  rwword = write_word c.effect.write;
+  line = r.line;
+  tways = tag_ways o;
+  tset = o.set;
+  tword = tag_word o;
+  dways = o.ways;
+  dw0 = o.line0;
+  dw1 = o.line1;
+  alerts = alerts;
+  event = c.effect.happens;
+}
+
+unfoldable pub out_by : Cycle → State → InWires → OutWires
+out_by c x i = out_with (out_of x.words (port_of x i c.request c.effect.fence)) (alerts_of x i) (reads_of x) c
+
+unfoldable pub gives : State → InWires → OutWires
+gives x i = out_by (cycle_of x i) x i
+
+-- CoreOut: what the core puts out in a cycle
+unfoldable pub core_out : State → InWires → OutWires
+core_out x i = gives x (heard x i)
+
+-- what is read, as the wires tell it
+abbrev pub reads_in : OutWires → Reads
+reads_in o = record { ra = o.ra; rb = o.rb; line = o.line }
+
+-- ---- unused words
+
+-- Two inputs are equal but for unused words: the word of an answer that isn't valid, a tag word where nothing is looked up, and a
+-- data word that isn't that of the lowest matching way.
+pub record IsSameUsed (x : State) (i j : InWires) : Type 0 where
+  pub irsp_valid : i.irsp_valid ≡ j.irsp_valid
+  pub irsp_err : i.irsp_err ≡ j.irsp_err
+  pub irsp_word : j.irsp_valid ≡ true → i.irsp_word ≡ j.irsp_word
+  pub drsp_valid : i.drsp_valid ≡ j.drsp_valid
+  pub drsp_err : i.drsp_err ≡ j.drsp_err
+  pub drsp_word : j.drsp_valid ≡ true → i.drsp_word ≡ j.drsp_word
+  pub igrant : i.igrant ≡ j.igrant
+  pub dgrant : i.dgrant ≡ j.dgrant
+  pub rega : i.rega ≡ j.rega
+  pub regb : i.regb ≡ j.regb
+  pub tag0 : looks x.words ≡ true → i.tag0 ≡ j.tag0
+  pub tag1 : looks x.words ≡ true → i.tag1 ≡ j.tag1
+  pub data0 : takes0 x.words j.tag0 ≡ true → i.data0 ≡ j.data0
+  pub data1 : takes1 x.words j.tag0 j.tag1 ≡ true → i.data1 ≡ j.data1
+  pub lines : i.lines ≡ j.lines
+  pub mul : i.mul ≡ j.mul

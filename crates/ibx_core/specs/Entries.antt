@@ -1,0 +1,68 @@
+-- What enters the stage next: an interrupt that is pending, a dummy that is due, or the instruction whose parcels are there. Our own rule.
+use Rattle.std.specs.Prelude.{◌<◌, ◌≤◌, ℕ, ◌+◌, ◌*◌, ◌/◌, ◌%◌, ◌^◌, Bool, true, false, not, ◌&&◌, ◌==◌, Option, Some, None, bit_and}
+use Rattle.ibx_isa.specs.ControlBits.{dummy_instr_en, dummy_instr_mask}
+use Rattle.ibx_isa.specs.Lengths.{is_long}
+use Rattle.ibx_csr.specs.declared.csrs.Csrs.{Csrs}
+use Rattle.ibx_csr.specs.Fields.{values}
+use Rattle.ibx_csr.specs.Values.{cfg_bytes}
+use Rattle.ibx_pmp.specs.declared.protection.AccessKind.TheVariants.{Execute}
+use Rattle.ibx_pmp.specs.Ranges.{allowed}
+use Rattle.ibx_trap.specs.Interrupts.{pending_of}
+use Rattle.ibx_dummy.specs.declared.unit.Dummy.{Dummy as DummyUnit}
+use Rattle.ibx_dummy.specs.Dummies.{counted_by, dummy_word, inserted, is_due}
+use Rattle.ibx_prefetch.specs.declared.buffer.Head.{Head}
+use Rattle.ibx_id.specs.declared.stage.IdState.{IdState}
+use Rattle.ibx_id.specs.declared.stage.Turn.{Turn}
+use Rattle.ibx_id.specs.declared.stage.Turn.TheVariants.{Hold}
+use Rattle.ibx_id.specs.Turns.{IsWithinWidths, empty_stage}
+use Rattle.ibx_core.specs.declared.effect.Effect.{Effect}
+use Rattle.ibx_core.specs.declared.admit.Entry.{Entry}
+
+-- an item in its first cycle
+abbrev pub enters : ℕ → ℕ → ℕ → ℕ → IdState
+enters kind pc word fault = record { valid = true; kind = kind; pc = pc; word = word; fault = fault; phase = 0; count = 0 }
+
+-- dummies are enabled, and the mask of their distance
+abbrev pub enables_dummies : Csrs → Bool
+enables_dummies c = not (bit_and c.cpuctrl dummy_instr_en == 0)
+
+abbrev pub dummy_mask : Csrs → ℕ
+dummy_mask c = bit_and c.cpuctrl dummy_instr_mask / 8
+
+-- By whether the first parcel is ready and sound, it is long, and the second is ready and sound. An unsound first parcel is taken
+-- alone, and an unsound second with the first.
+unfoldable pub fetched_by : Bool → Bool → Bool → Bool → Bool → ℕ → ℕ → ℕ → DummyUnit → DummyUnit → Entry
+fetched_by false sound long ready2 sound2 pc first second d counted = record { id = empty_stage; taken = 0; dummies = d }
+fetched_by true false long ready2 sound2 pc first second d counted = record { id = enters 0 pc 0 1; taken = 1; dummies = counted }
+fetched_by true true false ready2 sound2 pc first second d counted = record { id = enters 0 pc first 0; taken = 1; dummies = counted }
+fetched_by true true true false sound2 pc first second d counted = record { id = empty_stage; taken = 0; dummies = d }
+fetched_by true true true true false pc first second d counted = record { id = enters 0 pc 0 2; taken = 2; dummies = counted }
+fetched_by true true true true true pc first second d counted = record { id = enters 0 pc (first + 2 ^ 16 * second) 0; taken = 2; dummies = counted }
+
+-- protection lets the parcel at this address be executed
+unfoldable pub may_execute : Csrs → ℕ → Bool
+may_execute c addr = allowed (cfg_bytes (values c)) (values c).pmpaddr (addr / 2 * 2) 2 Execute c.priv_
+
+unfoldable pub fetched_of : Head → Csrs → DummyUnit → ℕ → Entry
+fetched_of h c d pc =
+    fetched_by h.first.ready (not h.first.err && may_execute c pc) (is_long h.first.half) h.second.ready (not h.second.err && may_execute c ((pc + 2) % 2 ^ 32)) pc h.first.half h.second.half d (counted_by (enables_dummies c) d)
+
+-- by the interrupt that is pending, and whether a dummy is due
+unfoldable pub entry_by : Option ℕ → Bool → Head → Csrs → DummyUnit → ℕ → Entry
+entry_by (Some number) due h c d pc = record { id = enters 2 pc number 0; taken = 0; dummies = d }
+entry_by None true h c d pc = record { id = enters 1 pc (dummy_word d.lfsr) 0; taken = 0; dummies = inserted d }
+entry_by None false h c d pc = fetched_of h c d pc
+
+-- while the item is held nothing enters; all else is as this cycle's event left it
+unfoldable pub admits_by : Turn → Head → Effect → ℕ → Entry
+admits_by (Hold st) h e lines = record { id = st; taken = 0; dummies = e.dummies }
+admits_by _ h e lines =
+    entry_by (pending_of e.csrs.priv_ e.csrs.mstatus e.csrs.mie lines) (is_due (enables_dummies e.csrs) (dummy_mask e.csrs) e.dummies) h e.csrs e.dummies e.next_pc
+
+-- ---- widths
+
+-- at most two parcels are taken, and the item and the count of the dummies keep their widths
+pub record IsEntry (n : Entry) : Type 0 where
+  pub id : IsWithinWidths n.id
+  pub taken : n.taken ≤ 2
+  pub dummies : n.dummies.dcount < 2 ^ 5

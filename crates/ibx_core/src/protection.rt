@@ -1,0 +1,49 @@
+ghost use Rattle.std.specs.Prelude.{◌≡◌, ◌≤◌};
+ghost use Rattle.ibx_csr.specs.Fields.{values};
+ghost use Rattle.ibx_csr.specs.Values.{cfg_bytes};
+ghost use Rattle.ibx_core.specs.Entries.{may_execute as may_execute_of};
+ghost use Rattle.ibx_core.specs.Sights.{is_denied as is_denied_of};
+
+use ibx_csr::Csrs;
+use ibx_isa::{Access, portion_bytes, portion_start};
+use ibx_pmp::{AccessKind, PmpRegs, allow};
+
+fn entries(csrs: &Csrs) -> PmpRegs
+    ensures cfg { result.cfg ≡ cfg_bytes (values csrs.now) }
+    ensures addr { result.addr ≡ (values csrs.now).pmpaddr }
+{
+    let view = csrs.pmp();
+    let cfg = view.cfg;
+    let addr = view.addr;
+    PmpRegs { cfg, addr }
+}
+
+// Whether protection refuses a portion of an access (Privileged ISA 1.12, 3.7.1 and 3.1.6.3).
+#[tactic(auto, unfolding(crate::specs::Sights::is_denied))]
+pub fn is_denied(csrs: &Csrs, want: &Access, second: bool) -> bool
+    requires { want.now.size ≤ 4 }
+    ensures { result ≡ is_denied_of csrs.now want.now second }
+{
+    let addr = portion_start(want.addr, second);
+    let size = portion_bytes(want.addr, want.size, second);
+    let kind = if want.store {
+        AccessKind::Write
+    } else {
+        AccessKind::Read
+    };
+    !allow(&entries(csrs), addr, size, kind, csrs.access_machine())
+}
+
+// Whether protection lets the parcel at a byte address be executed; bit 0 of the address isn't looked at.
+#[tactic(auto, unfolding(crate::specs::Entries::may_execute))]
+pub fn may_execute(csrs: &Csrs, addr: u32) -> bool
+    ensures { result ≡ may_execute_of csrs.now addr }
+{
+    allow(
+        &entries(csrs),
+        addr / 2 * 2,
+        2,
+        AccessKind::Execute,
+        csrs.priv_,
+    )
+}
