@@ -5,3 +5,4 @@ pub mod Steps
 pub mod Order
 pub mod Wires
 mod Examples
+pub mod Kept

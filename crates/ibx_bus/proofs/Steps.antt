@@ -16,7 +16,7 @@ use Rattle.ibx_bus.specs.Port.{PortState, grants, is_blocked, is_wait_over, port
 byte-lt : (word place : ℕ) → word_byte word place < 256
 byte-lt word place = mod_below (word / 256 ^ place) 256 (omega arith)
 
-merged-lt : (enables old new : ℕ) → merged enables old new < 4294967296
+pub merged-lt : (enables old new : ℕ) → merged enables old new < 4294967296
 unfolding merged
 merged-lt enables old new =
     let a = byte-lt (if bit_at enables 0 == 1 then new else old) 0 in
@@ -25,11 +25,11 @@ merged-lt enables old new =
     let d = byte-lt (if bit_at enables 3 == 1 then new else old) 3 in
     omega arith
 
-stored-whole : (enables old new : ℕ) → enables ≡ 15 → stored_word enables old new ≡ new
+pub stored-whole : (enables old new : ℕ) → enables ≡ 15 → stored_word enables old new ≡ new
 unfolding stored_word
 stored-whole enables old new e = rw e refl
 
-stored-bytes : (enables old new : ℕ) → enables ≢ 15 → stored_word enables old new ≡ rewrite_of 32 7 old (merged enables (payload_of 32 old) (payload_of 32 new))
+pub stored-bytes : (enables old new : ℕ) → enables ≢ 15 → stored_word enables old new ≡ rewrite_of 32 7 old (merged enables (payload_of 32 old) (payload_of 32 new))
 unfolding stored_word
 stored-bytes enables old new ne = rw (ne_eqb enables 15 ne) refl
 

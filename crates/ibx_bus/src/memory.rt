@@ -8,15 +8,16 @@ use crate::merge::store;
 use ibx_base::NoMemory;
 use ibx_bits::host_page_has;
 use ibx_isa::Req;
+use ibx_ram::CodedRam;
 use ibx_secded::Code;
 use std::alloc::Global;
 use std::marker::Model;
 
-/// RAM, as words of 39 bits: `Code<32, 7>` over the words of 32 bits.
+/// RAM, as words of 39 bits: `Code<32, 7>` over the words of 32 bits. A word takes five bytes.
 #[derive(Drop)]
 pub struct Memory {
     base: u32,
-    words: Vec<u64>,
+    words: CodedRam<32, 7>,
 }
 
 impl Model for Memory {
@@ -24,9 +25,9 @@ impl Model for Memory {
 
     ghost Value = { MemoryState };
 
-    ghost view = { λ m. record { base = m.base; words = m.words.items } };
+    ghost view = { λ m. record { base = m.base; words = m.words } };
 
-    ghost invariant = { λ m. IsMemory (record { base = m.base; words = m.words.items }) };
+    ghost invariant = { λ m. IsMemory (record { base = m.base; words = m.words }) };
 }
 
 /// The codeword of 0.
@@ -54,10 +55,10 @@ impl Memory {
         requires apart { MissesHostPage base (length image.now) }
         ensures { IfOk result (λ m. m ≡ coded_memory image.now base) }
     {
-        let words = image
-            .iter()
-            .map(|value| Code::<32, 7>::encode(u64::from(*value)))
-            .collect(alloc)?;
+        let mut words = CodedRam::new(alloc, image.len() as u32)?;
+        for (i, value) in image.iter().enumerate() {
+            words.put(i as u32, Code::<32, 7>::encode(u64::from(*value)));
+        }
         Ok(Memory { base, words })
     }
 
@@ -68,8 +69,7 @@ impl Memory {
         ensures value { self.new ≡ memory_flip self.old word bit }
         ensures others { (j : ℕ) → j ≢ word → slice_index self.new.words j ≡ slice_index self.old.words j }
     {
-        let changed = Code::<32, 7>::flip(self.words[word as usize], bit);
-        self.words[word as usize] = changed;
+        self.words.flip(word, bit);
     }
 
     fn in_ram(&self, addr: u32) -> bool
@@ -95,15 +95,14 @@ impl Memory {
                 word: zero_word(),
             };
         }
-        let index = (req.addr - self.base) as usize / 4;
-        let old = self.words[index];
+        let index = (req.addr - self.base) / 4;
         if !req.write {
             return Answer {
                 err: false,
-                word: old,
+                word: self.words.get(index),
             };
         }
-        self.words[index] = store(req.be, old, req.word);
+        store(&mut self.words, index, req.be, req.word);
         Answer {
             err: false,
             word: zero_word(),

@@ -1,7 +1,8 @@
-ghost use Rattle.std.specs.Prelude.{◌≡◌, ◌<◌, ◌^◌, ◌*◌, ◌/◌, ◌%◌, ◌+◌};
+ghost use Rattle.std.specs.Prelude.{◌≡◌, ◌<◌, ◌^◌, ◌*◌, ◌/◌, ◌%◌, ◌+◌, length, slice_index, slice_set};
 ghost use Rattle.ibx_secded.specs.Code.{payload_of};
 ghost use Rattle.ibx_bus.specs.Memory.{lane_of, merged, stored_word};
 
+use ibx_ram::CodedRam;
 use ibx_secded::Code;
 
 /// Byte number `place` of the new word where its enable is set, else of the old word.
@@ -30,22 +31,23 @@ fn merge(enables: u8, old: u64, new: u64) -> u64
     low + high
 }
 
-/// What a store leaves of a word: with four enables the word of the wires as it came, and with fewer the merged bytes
-/// under the syndrome that the word had, so that a flip in it stays told.
+/// Stores into word `index`: with four enables the word of the wires as it came, and with fewer the merged bytes, where
+/// the check bits change as the payload does, so that a flip in the word stays told.
 #[tactic(auto, unfolding(crate::specs::Memory::stored_word))]
-pub(crate) fn store(enables: u8, old: u64, new: u64) -> u64
-    requires old_fits { old < 2 ^ 39 }
-    requires new_fits { new < 2 ^ 39 }
-    ensures value { result ≡ stored_word enables old new }
-    ensures fits { result < 2 ^ 39 }
+pub(crate) fn store(words: &mut CodedRam<32, 7>, index: u32, enables: u8, new: u64)
+    requires inside { index < length words.old }
+    requires fits { new < 2 ^ 39 }
+    ensures { words.new ≡ slice_set words.old index (stored_word enables (slice_index words.old index) new) }
 {
     if enables == 15 {
-        return new;
+        words.put(index, new);
+        return;
     }
+    let old = words.get(index);
     let bytes = merge(
         enables,
         Code::<32, 7>::payload(old),
         Code::<32, 7>::payload(new),
     );
-    Code::<32, 7>::rewrite(old, bytes)
+    words.rewrite(index, bytes);
 }

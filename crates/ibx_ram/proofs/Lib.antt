@@ -1,1 +1,1 @@
-pub mod Flips
+pub mod Planes

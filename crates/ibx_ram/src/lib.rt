@@ -26,6 +26,9 @@ mod tests {
         for (i, word) in held {
             assert_eq!(rt; ram.get(i), word);
         }
+        assert_eq!(rt; ram.len(), 4);
+        ram.rewrite(3, 0x0100_0001);
+        assert_eq!(rt; ram.get(3), 0x2d_0100_0001);
 
         let tags = CodedRam::<22, 6>::new(rt.alloc(), 1).expect(&rt, "memory");
         assert_eq!(rt; tags.get(0), 0xa80_0000);

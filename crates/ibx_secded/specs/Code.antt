@@ -31,6 +31,11 @@ unfolding column
 checks height zero word = 0
 checks height (suc i) word = bit_xor (checks height i word) (bit_at word i * column height i)
 
+-- An entry of the tables of a code: the plain check of the payload with these four bits, from bit 4 * place on, and no
+-- others. A bit at or above payload_bits has no column and adds nothing.
+abbrev pub entry_of : ℕ → ℕ → ℕ → ℕ → ℕ
+entry_of payload_bits height place four = checks height payload_bits (four * 2 ^ (4 * place))
+
 -- the number of this height, at most 8, whose bit k is 1 exactly for odd k
 abbrev pub constant : ℕ → ℕ
 constant height = 170 % 2 ^ height

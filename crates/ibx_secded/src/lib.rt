@@ -4,8 +4,12 @@
 //! The stored check bits are inverted at each odd place, so that neither all zeros nor all ones is a codeword.
 #![tactic(auto)]
 
+mod tables;
+
 ghost use Rattle.std.specs.Prelude.{◌≡◌, ◌≢◌, ◌↔◌, ◌+◌, ◌-◌, ◌*◌, ◌<◌, ◌≤◌, ◌^◌, ◌%◌, ℕ, length, slice_index, bit_xor};
 ghost use Rattle.ibx_secded.specs.Code.{IsCode, IsCodeword, IsHeight, column, columns, checks, encode_of, syndrome_of, payload_of, rewrite_of, constant as constant_of};
+
+use crate::tables::{check_22, check_32};
 
 static COLUMNS_4: [u8; 4] = [7, 11, 13, 14];
 
@@ -72,10 +76,11 @@ fn constant(height: usize) -> u64
 pub struct Code<const K: usize, const R: usize>;
 
 impl<const K: usize, const R: usize> Code<K, R> {
-    /// The XOR of the columns of the set bits.
+    /// The XOR of the columns of the set bits, column by column: `check` without its tables.
     #[tactic(auto, using(crate::proofs::Loop::steps))]
-    fn plain_check(value: u64) -> u64
-        requires { IsCode K R }
+    pub fn plain_check(value: u64) -> u64
+        requires code { IsCode K R }
+        requires fits { value < 2 ^ K }
         ensures value { result ≡ checks R K value }
         ensures fits { result < 2 ^ R }
     {
@@ -84,6 +89,23 @@ impl<const K: usize, const R: usize> Code<K, R> {
             check ^= ((value >> i) & 1) * column_at(R, i);
         }
         check
+    }
+
+    /// The XOR of the columns of the set bits: by tables for four bits at a time where (K, R) is (32, 7) or (22, 6),
+    /// and else column by column.
+    pub fn check(value: u64) -> u64
+        requires code { IsCode K R }
+        requires fits { value < 2 ^ K }
+        ensures value { result ≡ checks R K value }
+        ensures fits { result < 2 ^ R }
+    {
+        if K == 32 && R == 7 {
+            check_32(value)
+        } else if K == 22 && R == 6 {
+            check_22(value)
+        } else {
+            Self::plain_check(value)
+        }
     }
 
     /// A payload below its stored check bits.
@@ -107,7 +129,7 @@ impl<const K: usize, const R: usize> Code<K, R> {
         ensures sound { syndrome_of K R result ≡ 0 }
         ensures payload { payload_of K result ≡ value }
     {
-        Self::join(Self::plain_check(value) ^ constant(R), value)
+        Self::join(Self::check(value) ^ constant(R), value)
     }
 
     /// The check bits that are wrong: 0 exactly for codewords. Another syndrome comes after one flipped bit,
@@ -127,7 +149,7 @@ impl<const K: usize, const R: usize> Code<K, R> {
         ensures one_flip { (b : ℕ) → b < K + R → syndrome_of K R (bit_xor word (2 ^ b)) ≢ result }
         ensures two_flips { (a b : ℕ) → a < K + R → b < K + R → a ≢ b → syndrome_of K R (bit_xor (bit_xor word (2 ^ a)) (2 ^ b)) ≢ result }
     {
-        (word >> K) ^ constant(R) ^ Self::plain_check(Self::payload(word))
+        (word >> K) ^ constant(R) ^ Self::check(Self::payload(word))
     }
 
     /// The low K bits.
@@ -150,7 +172,7 @@ impl<const K: usize, const R: usize> Code<K, R> {
         ensures same { syndrome_of K R result ≡ syndrome_of K R old }
         ensures payload { payload_of K result ≡ value }
     {
-        let stored = Self::syndrome(old) ^ constant(R) ^ Self::plain_check(value);
+        let stored = Self::syndrome(old) ^ constant(R) ^ Self::check(value);
         Self::join(stored, value)
     }
 
@@ -189,5 +211,14 @@ mod tests {
         assert_eq!(rt; Code::<32, 7>::payload(0x2d_0100_0001), 0x0100_0001);
         assert_eq!(rt; Code::<32, 7>::flip(0x2d_0000_0001, 38), 0x6d_0000_0001);
         assert_eq!(rt; Code::<22, 6>::encode(0), 0xa80_0000);
+
+        // Columns of the check matrix: the first and the last, alone and with others.
+        let checks = [(0x1, 7), (0xf, 15), (0x8000_0000, 98), (0x8000_0001, 101)];
+        for (value, check) in checks {
+            assert_eq!(rt; Code::<32, 7>::check(value), check);
+            assert_eq!(rt; Code::<32, 7>::plain_check(value), check);
+        }
+        assert_eq!(rt; Code::<22, 6>::check(0x30_0000), 48);
+        assert_eq!(rt; Code::<4, 4>::check(0xf), 15);
     }
 }

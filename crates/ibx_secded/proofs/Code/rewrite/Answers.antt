@@ -4,12 +4,12 @@ use Rattle.ibx_secded.proofs.Code.rewrite.Goals as goal
 
 pub join-requires-clause-stored_fits : goal.join-requires-clause-stored_fits
 join-requires-clause-stored_fits g c =
-    xor_lt g.row.R _ c.plain_check.result (xor_lt g.row.R c.syndrome.result c.constant.result c.syndrome.ensures.fits c.constant.ensures.fits) c.plain_check.ensures.fits
+    xor_lt g.row.R _ c.check.result (xor_lt g.row.R c.syndrome.result c.constant.result c.syndrome.ensures.fits c.constant.ensures.fits) c.check.ensures.fits
 
 value-is : goal.returns-clause-value
 value-is g c =
-    rewritten g.row.K g.row.R c.args.old c.syndrome.result c.args.value c.plain_check.result c.constant.result _
-    c.syndrome.ensures.value c.plain_check.ensures.value c.constant.ensures.value c.join.ensures.value
+    rewritten g.row.K g.row.R c.args.old c.syndrome.result c.args.value c.check.result c.constant.result _
+    c.syndrome.ensures.value c.check.ensures.value c.constant.ensures.value c.join.ensures.value
 
 pub returns-clause-value : goal.returns-clause-value
 returns-clause-value g c = value-is g c

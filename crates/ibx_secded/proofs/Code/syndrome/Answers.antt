@@ -6,7 +6,7 @@ use Rattle.ibx_secded.proofs.Laws.{told, encode_of-payload, syndrome_of-encode, 
 use Rattle.ibx_secded.proofs.Code.syndrome.Goals as goal
 
 value-is : goal.returns-clause-value
-value-is g c = told g.row.K g.row.R c.args.word c.plain_check.result c.constant.result c.payload.result c.payload.ensures.value c.plain_check.ensures.value c.constant.ensures.value
+value-is g c = told g.row.K g.row.R c.args.word c.check.result c.constant.result c.payload.result c.payload.ensures.value c.check.ensures.value c.constant.ensures.value
 
 pub returns-clause-value : goal.returns-clause-value
 returns-clause-value g c = value-is g c
@@ -14,7 +14,7 @@ returns-clause-value g c = value-is g c
 pub returns-clause-fits : goal.returns-clause-fits
 returns-clause-fits g c =
     let above : c.args.word / 2 ^ g.row.K < 2 ^ g.row.R = shr_below c.args.word g.row.R g.row.K (rw add_comm c.requires.fits) in
-    xor_lt g.row.R _ c.plain_check.result (xor_lt g.row.R (c.args.word / 2 ^ g.row.K) c.constant.result above c.constant.ensures.fits) c.plain_check.ensures.fits
+    xor_lt g.row.R _ c.check.result (xor_lt g.row.R (c.args.word / 2 ^ g.row.K) c.constant.result above c.constant.ensures.fits) c.check.ensures.fits
 
 pub returns-clause-encoded : goal.returns-clause-encoded
 returns-clause-encoded g c =
