@@ -1,4 +1,5 @@
--- Loads and stores: their portions, who may make them, and what they leave (Unprivileged ISA, 2.6; Privileged ISA 1.12, 3.1.6.3 and 3.7).
+-- Loads and stores: their portions, who may make them, and what they leave (Unprivileged ISA, 2.6; Privileged ISA
+-- 1.12, 3.1.6.3 and 3.7).
 use Rattle.std.specs.Prelude.{ℕ, Bool, true, false, not, ◌&&◌, ◌==◌, if◌then◌else◌, Option, Some, None}
 use Rattle.ibx_csr.specs.Values.{CsrValues, cfg_bytes}
 use Rattle.ibx_isa.specs.Portions.{parts_of, portion_addr, portion_size}
@@ -15,7 +16,8 @@ has_second addr size = parts_of addr size == 2
 -- protection refuses a portion
 abbrev pub is_refused : CsrValues → ℕ → ℕ → AccessKind → Bool → Bool
 is_refused csrs addr size kind second =
-    not (allowed (cfg_bytes csrs) csrs.pmpaddr (portion_addr addr second) (portion_size addr size second) kind (access_machine csrs))
+    not (allowed (cfg_bytes csrs) csrs.pmpaddr (portion_addr addr second) (portion_size addr size second) kind
+    (access_machine csrs))
 
 -- the address of the portion that protection refuses, the first before the second
 unfoldable pub refused_at : CsrValues → ℕ → ℕ → AccessKind → Option ℕ
@@ -35,5 +37,6 @@ error_at ram addr size =
 unfoldable pub stored : Memory → ℕ → ℕ → ℕ → Memory
 stored memory addr size value =
     if has_second addr size && is_mapped memory.ram (portion_addr addr false)
-    then with_bytes (with_bytes memory addr 0 (portion_size addr size false) value) addr (portion_size addr size false) size value
+    then with_bytes (with_bytes memory addr 0 (portion_size addr size false) value) addr (portion_size addr size false)
+    size value
     else with_bytes memory addr 0 (portion_size addr size false) value

@@ -1,7 +1,8 @@
 -- What each instruction does (Unprivileged ISA, 2.4 to 2.8, 7 and 9; Privileged ISA 1.12, 3.3).
 use Rattle.std.specs.Prelude.{ℕ, ◌+◌, ◌*◌, ◌/◌, ◌%◌, ◌^◌, true, false, not, if◌then◌else◌, Option, Some, None}
 use Rattle.ibx_isa.specs.declared.insn.Insn.{Insn}
-use Rattle.ibx_isa.specs.declared.insn.Insn.TheVariants.{Lui, Auipc, Jal, Jalr, Branch, Load, Store, AluImm, Alu, MulDiv, Csr, Fence, FenceI, Ecall, Ebreak, Mret, Wfi}
+use Rattle.ibx_isa.specs.declared.insn.Insn.TheVariants.{Lui, Auipc, Jal, Jalr, Branch, Load, Store, AluImm, Alu}
+use Rattle.ibx_isa.specs.declared.insn.Insn.TheVariants.{MulDiv, Csr, Fence, FenceI, Ecall, Ebreak, Mret, Wfi}
 use Rattle.ibx_isa.specs.declared.insn.LoadOp.{LoadOp}
 use Rattle.ibx_isa.specs.declared.insn.CsrOp.{CsrOp}
 use Rattle.ibx_isa.specs.Alu.{alu_of, branch_of}
@@ -46,6 +47,8 @@ illegal s word = trap s illegal_instruction word 0
 abbrev pub following : State → ℕ → ℕ
 following s length = (s.pc + length) % 2 ^ 32
 
+-- a load by the address that protection refuses, if any, and by the one that no memory answers, if any: the first of
+-- the two traps
 abbrev pub load_with : State → LoadOp → ℕ → ℕ → ℕ → Option ℕ → Option ℕ → Executed
 load_with s op rd addr next (Some at) error = trap s load_fault at addr
 load_with s op rd addr next None (Some at) = trap s load_fault at addr
@@ -63,11 +66,14 @@ load_with s op rd addr next None None = record {
 
 -- cause 5: a portion that protection refuses comes before one that no memory answers
 unfoldable pub load : State → LoadOp → ℕ → ℕ → ℕ → Executed
-load s op rd addr next = load_with s op rd addr next (refused_at s.csrs addr (size_of op) Read) (error_at s.memory.ram addr (size_of op))
+load s op rd addr next =
+    load_with s op rd addr next (refused_at s.csrs addr (size_of op) Read) (error_at s.memory.ram addr (size_of op))
 
+-- a store by the same two; one that no memory answers has written what it could
 abbrev pub store_with : State → ℕ → ℕ → ℕ → ℕ → Option ℕ → Option ℕ → Executed
 store_with s size addr value next (Some at) error = trap s store_fault at addr
-store_with s size addr value next None (Some at) = record (trap s store_fault at addr) { memory = stored s.memory addr size (value % 256 ^ size) }
+store_with s size addr value next None (Some at) =
+    record (trap s store_fault at addr) { memory = stored s.memory addr size (value % 256 ^ size) }
 store_with s size addr value next None None = record {
   done = Retires (record {
     rd = 0;
@@ -82,8 +88,10 @@ store_with s size addr value next None None = record {
 
 -- cause 7; a store whose second portion no memory answers has written its first
 unfoldable pub store : State → ℕ → ℕ → ℕ → ℕ → Executed
-store s size addr value next = store_with s size addr value next (refused_at s.csrs addr size Write) (error_at s.memory.ram addr size)
+store s size addr value next =
+    store_with s size addr value next (refused_at s.csrs addr size Write) (error_at s.memory.ram addr size)
 
+-- an access by what the CSR read: an unknown one is illegal, and so is a write of a read-only one
 abbrev pub csr_with : State → CsrOp → ℕ → ℕ → ℕ → ℕ → ℕ → ℕ → Option ℕ → Executed
 csr_with s op rd src source addr word next None = illegal s word
 csr_with s op rd src source addr word next (Some old) =
@@ -103,7 +111,8 @@ csr_with s op rd src source addr word next (Some old) =
 
 -- It reads before it writes; an unknown CSR, a mode that is too low and a write of a read-only one are illegal.
 unfoldable pub csr_access : State → CsrOp → ℕ → ℕ → ℕ → ℕ → ℕ → ℕ → ℕ → Executed
-csr_access s op rd src source addr word next lines = csr_with s op rd src source addr word next (csr_read s.csrs addr lines)
+csr_access s op rd src source addr word next lines =
+    csr_with s op rd src source addr word next (csr_read s.csrs addr lines)
 
 -- MRET is illegal in U mode
 unfoldable pub return_from_trap : State → ℕ → Executed
@@ -124,12 +133,15 @@ execute s (Jalr rd rs1 imm) word length lines = plain s rd (following s length) 
 execute s (Branch op rs1 rs2 imm) word length lines =
     plain s 0 0 (if branch_of op (reg s rs1) (reg s rs2) then (s.pc + imm) % 2 ^ 32 else following s length)
 execute s (Load op rd rs1 imm) word length lines = load s op rd ((reg s rs1 + imm) % 2 ^ 32) (following s length)
-execute s (Store size rs1 rs2 imm) word length lines = store s size ((reg s rs1 + imm) % 2 ^ 32) (reg s rs2) (following s length)
+execute s (Store size rs1 rs2 imm) word length lines =
+    store s size ((reg s rs1 + imm) % 2 ^ 32) (reg s rs2) (following s length)
 execute s (AluImm op rd rs1 imm) word length lines = plain s rd (alu_of op (reg s rs1) imm) (following s length)
 execute s (Alu op rd rs1 rs2) word length lines = plain s rd (alu_of op (reg s rs1) (reg s rs2)) (following s length)
-execute s (MulDiv op rd rs1 rs2) word length lines = plain s rd (md_value op (reg s rs1) (reg s rs2)) (following s length)
+execute s (MulDiv op rd rs1 rs2) word length lines =
+    plain s rd (md_value op (reg s rs1) (reg s rs2)) (following s length)
 execute s (Csr op rd src true addr) word length lines = csr_access s op rd src src addr word (following s length) lines
-execute s (Csr op rd src false addr) word length lines = csr_access s op rd src (reg s src) addr word (following s length) lines
+execute s (Csr op rd src false addr) word length lines =
+    csr_access s op rd src (reg s src) addr word (following s length) lines
 execute s Fence word length lines = plain s 0 0 (following s length)
 execute s FenceI word length lines = plain s 0 0 (following s length)
 execute s Ecall word length lines = trap s (if s.csrs.machine then machine_call else user_call) 0 0

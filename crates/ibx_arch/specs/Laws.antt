@@ -22,8 +22,10 @@ BeginsAligned = (image : Placed) → image.entry % 2 ≡ 0 → IsAligned (reset_
 
 -- a step of an aligned state leads to one
 abbrev pub StaysAligned : Type 0
-StaysAligned = (lines : ℕ → ℕ) (s : State) (choice : Choice) (cycle : ℕ) → AreParcels choice → IsAligned s → IsAligned (step_with lines s choice cycle).next
+StaysAligned = (lines : ℕ → ℕ) (s : State) (choice : Choice) (cycle : ℕ) → AreParcels choice → IsAligned s
+    → IsAligned (step_with lines s choice cycle).next
 
 -- the memory after a step is the memory before with the step's writes made in order
 abbrev pub WritesMemory : Type 0
-WritesMemory = (lines : ℕ → ℕ) (s : State) (choice : Choice) (cycle : ℕ) → (step_with lines s choice cycle).next.memory ≡ after_writes s.memory (step_writes s choice)
+WritesMemory = (lines : ℕ → ℕ) (s : State) (choice : Choice) (cycle : ℕ)
+    → (step_with lines s choice cycle).next.memory ≡ after_writes s.memory (step_writes s choice)

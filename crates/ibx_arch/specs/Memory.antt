@@ -19,7 +19,8 @@ is_mapped ram addr = ram_has ram addr || host_page_has addr
 abbrev pub read_byte : Memory → ℕ → ℕ
 read_byte memory addr = if ram_has memory.ram addr then memory.byte addr else 0
 
--- the number of the bytes at addr, addr + 1 and so on, the least significant first; addresses wrap (Unprivileged ISA, 1.4)
+-- the number of the bytes at addr, addr + 1 and so on, the least significant first; addresses wrap (Unprivileged ISA,
+-- 1.4)
 abbrev pub read_bytes : Memory → ℕ → ℕ → ℕ
 read_bytes memory addr size = bytes_number (λ k. read_byte memory ((addr + k) % 2 ^ 32)) size
 

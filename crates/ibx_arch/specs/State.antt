@@ -16,6 +16,7 @@ pub record State : Type 0 where
 abbrev pub reg : State → ℕ → ℕ
 reg s n = if n == 0 then 0 else slice_index s.regs n
 
+-- the registers with a value written to one of them
 abbrev pub with_reg : List ℕ → ℕ → ℕ → List ℕ
 with_reg regs n value = if n == 0 then regs else slice_set regs n value
 

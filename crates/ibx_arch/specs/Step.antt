@@ -1,5 +1,6 @@
 -- One step of the architecture, as a function of the state, the choice and the cycle.
-use Rattle.std.specs.Prelude.{ℕ, zero, suc, ◌+◌, ◌*◌, ◌%◌, ◌^◌, Bool, true, false, ◌==◌, if◌then◌else◌, Option, Some, None, bit_and, List, replicate}
+use Rattle.std.specs.Prelude.{ℕ, zero, suc, ◌+◌, ◌*◌, ◌%◌, ◌^◌, Bool, true, false, ◌==◌, if◌then◌else◌, Option, Some}
+use Rattle.std.specs.Prelude.{None, bit_and, List, replicate}
 use Rattle.ibx_elf.specs.Image.{Placed}
 use Rattle.ibx_isa.specs.declared.insn.Insn.{Insn}
 use Rattle.ibx_isa.specs.declared.insn.Insn.TheVariants.{Wfi}
@@ -34,14 +35,21 @@ pub record Stepped : Type 0 where
 
 -- the operands, where fixed timing is off
 unfoldable pub operands : State → Insn → Option (ℕ × ℕ)
-operands s insn = if bit_and s.csrs.cpuctrl data_ind_timing == 0 then Some (reg s (source1 insn), reg s (source2 insn)) else None
+operands s insn =
+    if bit_and s.csrs.cpuctrl data_ind_timing == 0 then Some (reg s (source1 insn), reg s (source2 insn)) else None
 
 -- The event of an instruction at a program counter and the state after it, from how it ended. A trap goes to
 -- its handler (Privileged ISA 1.12, 3.1.6.1).
 abbrev pub stepped_by : ℕ → List ℕ → ℕ → ℕ → Option (ℕ × ℕ) → Executed → Done → Stepped
 stepped_by pc regs cycle word ops after (Retires r) = record {
   event = Retire cycle pc word r.rd (if r.rd == 0 then 0 else r.value) r.mem r.ctl ops;
-  next = record { pc = r.next_pc; regs = with_reg regs r.rd r.value; memory = after.memory; csrs = after.csrs; stands = cycle + 1 };
+  next = record {
+    pc = r.next_pc;
+    regs = with_reg regs r.rd r.value;
+    memory = after.memory;
+    csrs = after.csrs;
+    stands = cycle + 1;
+  };
 }
 stepped_by pc regs cycle word ops after (Traps cause tval addr) = record {
   event = Trap cycle pc word cause tval addr;
@@ -54,13 +62,15 @@ stepped_by pc regs cycle word ops after (Traps cause tval addr) = record {
   };
 }
 
+-- the same from what the instruction did
 unfoldable pub finished : ℕ → List ℕ → ℕ → ℕ → Option (ℕ × ℕ) → Executed → Stepped
 finished pc regs cycle word ops executed = stepped_by pc regs cycle word ops executed executed.done
 
 -- a word that fits no row is illegal
 abbrev pub decoded : State → ℕ → ℕ → ℕ → ℕ → Option Insn → Stepped
 decoded s cycle word length lines None = finished s.pc s.regs cycle word None (illegal s word)
-decoded s cycle word length lines (Some insn) = finished s.pc s.regs cycle word (operands s insn) (execute s insn word length lines)
+decoded s cycle word length lines (Some insn) =
+    finished s.pc s.regs cycle word (operands s insn) (execute s insn word length lines)
 
 -- an unsound parcel is an instruction access fault, cause 1, whose event has no word
 abbrev pub after_fetch : State → ℕ → ℕ → Fetched → Stepped
@@ -109,7 +119,8 @@ step_with lines s (Parcels first second) cycle = instruction (at_cycle s cycle) 
 
 -- the step with a choice at a cycle, where the state takes it
 unfoldable pub arch_step : (ℕ → ℕ) → State → Choice → ℕ → Option Stepped
-arch_step lines s choice cycle = if takes_choice lines s choice cycle then Some (step_with lines s choice cycle) else None
+arch_step lines s choice cycle =
+    if takes_choice lines s choice cycle then Some (step_with lines s choice cycle) else None
 
 -- the state at reset: the image in memory, its entry, registers of 0, and the CSRs' reset values
 unfoldable pub reset_state : Placed → State
@@ -130,6 +141,7 @@ abbrev pub is_wait : CsrValues → Option Insn → Bool
 is_wait csrs (Some Wfi) = may_wait csrs
 is_wait csrs _ = false
 
+-- the same of what was fetched, and of two parcels at the program counter
 abbrev pub is_wait_at : CsrValues → Fetched → Bool
 is_wait_at csrs (Unsound addr) = false
 is_wait_at csrs (Instruction word length) = is_wait csrs (instruction_of word)

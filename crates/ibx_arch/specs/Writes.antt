@@ -1,5 +1,6 @@
 -- What a step writes to memory: the portions of a store, in the order in which they are made.
-use Rattle.std.specs.Prelude.{ℕ, ◌+◌, ◌%◌, ◌^◌, Bool, true, false, ◌&&◌, if◌then◌else◌, List, [], ◌∷◌, Option, Some, None}
+use Rattle.std.specs.Prelude.{ℕ, ◌+◌, ◌%◌, ◌^◌, Bool, true, false, ◌&&◌, if◌then◌else◌, List, [], ◌∷◌, Option, Some}
+use Rattle.std.specs.Prelude.{None}
 use Rattle.ibx_elf.specs.declared.ram.Ram.{Ram}
 use Rattle.ibx_isa.specs.declared.insn.Insn.{Insn}
 use Rattle.ibx_isa.specs.declared.insn.Insn.TheVariants.{Store}
@@ -28,11 +29,13 @@ after_writes memory (w ∷ ws) = after_writes (with_bytes memory w.addr w.from w
 
 -- the first portion of a store, or the second
 abbrev pub portion_write : ℕ → ℕ → ℕ → Bool → PortionWrite
-portion_write addr size value false = record { addr = addr; from = 0; to = portion_size addr size false; value = value }
-portion_write addr size value true = record { addr = addr; from = portion_size addr size false; to = size; value = value }
+portion_write addr size value false =
+    record { addr = addr; from = 0; to = portion_size addr size false; value = value }
+portion_write addr size value true =
+    record { addr = addr; from = portion_size addr size false; to = size; value = value }
 
--- A store that nothing refuses makes its first portion, and the second where the first met no error. One that no memory
--- answers is among them, and changes nothing.
+-- A store that nothing refuses makes its first portion, and the second where the first met no error. One that no
+-- memory answers is among them, and changes nothing.
 abbrev pub granted_writes : Ram → ℕ → ℕ → ℕ → List PortionWrite
 granted_writes ram addr size value =
     if has_second addr size && is_mapped ram (portion_addr addr false)
@@ -46,8 +49,10 @@ unless_refused (Some at) ws = []
 
 -- a store's, with its value as the event has it
 unfoldable pub store_writes : State → ℕ → ℕ → ℕ → List PortionWrite
-store_writes s size addr value = unless_refused (refused_at s.csrs addr size Write) (granted_writes s.memory.ram addr size (value % 256 ^ size))
+store_writes s size addr value =
+    unless_refused (refused_at s.csrs addr size Write) (granted_writes s.memory.ram addr size (value % 256 ^ size))
 
+-- those of an instruction, and of what was fetched
 abbrev pub insn_writes : State → Option Insn → List PortionWrite
 insn_writes s (Some (Store size rs1 rs2 imm)) = store_writes s size ((reg s rs1 + imm) % 2 ^ 32) (reg s rs2)
 insn_writes s insn = []

@@ -10,11 +10,14 @@ use Rattle.std.proofs.lemmas.Slice.Eq.{bytes_eq-Decides}
 use Rattle.ibx_base.specs.MemFiles.{Entry, is_named, content_of, Finds}
 
 module _ (entries : List Entry) (name : List ℕ) where
+  -- the search ends at the list's end where no entry has the name, and else at one that has it
   missing : length entries ≤ position_or_len (is_named name) entries → Finds entries name None
   unfolding content_of
-  missing past = ap (option_map (λ (e : Entry). e.bytes)) (find_at (is_named name) entries ∙ slice_get_past entries (position_or_len (is_named name) entries) past)
+  missing past = ap (option_map (λ (e : Entry). e.bytes))
+      (find_at (is_named name) entries ∙ slice_get_past entries (position_or_len (is_named name) entries) past)
 
-  located : (e : Entry) → slice_get entries (position_or_len (is_named name) entries) ≡ Some e → is_named name e ≡ true → Finds entries name (Some (position_or_len (is_named name) entries))
+  located : (e : Entry) → slice_get entries (position_or_len (is_named name) entries) ≡ Some e → is_named name e ≡ true
+      → Finds entries name (Some (position_or_len (is_named name) entries))
   unfolding content_of
   located e at is =
       let same : e.name ≡ name = (bytes_eq-Decides e.name name).0 is in (
@@ -25,13 +28,17 @@ module _ (entries : List Entry) (name : List ℕ) where
         ),
       )
 
+  -- so what it finds is the first entry of the name, or none
   pub finds : Finds entries name (position (is_named name) entries)
   finds =
       elim (cases_lt (position_or_len (is_named name) entries) (length entries)) [
         | inl within ↦ elim (slice_get_cases entries (position_or_len (is_named name) entries)).1 [
           | inl (e, inside, at, here) ↦
-              let some : position (is_named name) entries ≡ Some (position_or_len (is_named name) entries) = rw (lt-ltb (position_or_len (is_named name) entries) (length entries) within) refl in
-              let is : is_named name e ≡ true = subst (λ (x : Entry). is_named name x ≡ true) here (position-Some (is_named name) entries (position_or_len (is_named name) entries) e some).1 in
+              let some : position (is_named name) entries ≡ Some (position_or_len (is_named name) entries) =
+              rw (lt-ltb (position_or_len (is_named name) entries) (length entries) within) refl in
+              let is : is_named name e ≡ true =
+              subst (λ (x : Entry). is_named name x ≡ true) here
+              (position-Some (is_named name) entries (position_or_len (is_named name) entries) e some).1 in
               rw (lt-ltb (position_or_len (is_named name) entries) (length entries) within) (located e at is)
           | inr (past, none) ↦ absurd (omega arith)
         ]

@@ -1,6 +1,7 @@
 -- A count of faults: a number of 64 bits that stands still at its end.
 use Rattle.std.specs.Prelude.{ℕ, ◌+◌, ◌-◌, ◌^◌, ◌≤◌, min, Result, OnErr}
 
+-- the greatest number of 64 bits, at which a count stands still
 abbrev pub last_count : ℕ
 last_count = 2 ^ 64 - 1
 

@@ -1,5 +1,6 @@
 -- What files mean, where they tell it: the bytes of each name, and the file that was begun.
-use Rattle.std.specs.Prelude.{⊤, ◌≡◌, ℕ, ◌<◌, ◌≤◌, List, ◌++◌, length, take, drop, Option, Some, None, IsSome, IsSomeAnd, IfSome, MatchOption}
+use Rattle.std.specs.Prelude.{⊤, ◌≡◌, ℕ, ◌<◌, ◌≤◌, List, ◌++◌, length, take, drop, Option, Some, None, IsSome}
+use Rattle.std.specs.Prelude.{IsSomeAnd, IfSome, MatchOption}
 use Rattle.std.specs.Option.{option_map}
 use Rattle.ibx_base.specs.Counts.{Rose}
 
@@ -53,4 +54,5 @@ IsBegunAs name begun = IfSome begun (λ file. file.name ≡ name)
 -- what was read since, and what is left
 abbrev pub HasRead : Option Begun → List ℕ → Option Begun → Type 0
 HasRead None bytes after = after ≡ None
-HasRead (Some begun) bytes after = (left : List ℕ) × ((after ≡ Some (whole_file begun.name left)) × (begun.left ≡ bytes ++ left))
+HasRead (Some begun) bytes after =
+    (left : List ℕ) × ((after ≡ Some (whole_file begun.name left)) × (begun.left ≡ bytes ++ left))

@@ -5,6 +5,7 @@ use Rattle.ibx_base.specs.declared.mem_files.Place.{Place}
 use Rattle.ibx_base.specs.Files.{Begun}
 use Rattle.ibx_base.specs.MemFiles.{Entry, begun_at}
 
+-- the begun file that a place in the entries stands for
 abbrev pub begun_place : List Entry → Option Place → Option Begun
 begun_place entries None = None
 begun_place entries (Some place) = begun_at entries place.file place.read

@@ -132,7 +132,7 @@ impl MemFiles {
     }
 }
 
-// One more, as far as the type goes.
+/// One more, as far as the type goes.
 pub fn raised(count: u64) -> u64
     ensures { result ≡ raised_count count }
 {

@@ -37,7 +37,7 @@ impl From<AllocError> for ReadEnd {
     }
 }
 
-/// How many bytes one read asks for.
+// How many bytes one read asks for.
 const CHUNK: usize = 4096;
 
 /// Reads a file to its end. `TooLong` comes exactly where more than `limit` bytes came, and `Failed` only

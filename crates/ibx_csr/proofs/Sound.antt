@@ -8,13 +8,16 @@ use Rattle.ibx_csr.specs.declared.csrs.Csrs.{Csrs}
 use Rattle.ibx_csr.specs.Table.{writable}
 use Rattle.ibx_csr.specs.Kept.{is_addr_locked}
 use Rattle.ibx_csr.specs.Values.{cfg_bytes}
-use Rattle.ibx_csr.specs.Fields.{values, put_cfg, put_addr, put_of, put_at, write_of, guarded_trap, guarded_cfg, guarded_low, guarded_high, AreComplements, Complemented, any_glitch, glitch_of}
+use Rattle.ibx_csr.specs.Fields.{values, put_cfg, put_addr, put_of, put_at, write_of, guarded_trap, guarded_cfg}
+use Rattle.ibx_csr.specs.Fields.{guarded_low, guarded_high, AreComplements, Complemented, any_glitch, glitch_of}
 use Rattle.ibx_bits.specs.Bytes.{complement}
 
+-- two tests of which neither holds
 neither : (a b : Bool) → (a || b) ≡ false → (a ≡ false) × (b ≡ false)
 neither true b e = absurd (cc)
 neither false b e = (refl, e)
 
+-- the test of a pair tells its complement, both ways
 no_complement : (n m : ℕ) → m ≡ complement n → not (m == complement n) ≡ false
 no_complement n m e = rw (eq-eqb m (complement n) e) refl
 
@@ -27,22 +30,38 @@ complement_of n m e = elim (cases_Bool (m == complement n)) [
 -- of a list of pairs
 none_wrong : (ps : List (ℕ × ℕ)) → any_glitch ps ≡ false → AreComplements ps
 none_wrong [] e = tt
-none_wrong (p ∷ ps) e = let parts = neither (not (p.1 == complement p.0)) (any_glitch ps) e in (complement_of p.0 p.1 parts.0, none_wrong ps parts.1)
+none_wrong (p ∷ ps) e =
+    let parts = neither (not (p.1 == complement p.0)) (any_glitch ps) e in
+    (complement_of p.0 p.1 parts.0, none_wrong ps parts.1)
 
+-- and back
 all_right : (ps : List (ℕ × ℕ)) → AreComplements ps → any_glitch ps ≡ false
 all_right [] h = refl
 all_right (p ∷ ps) h = rw (no_complement p.0 p.1 h.0) (all_right ps h.1)
 
+-- so no glitch is told exactly where every complement is one
 pub glitch-sound : (s : Csrs) → (glitch_of s ≡ false) ↔ Complemented s
 unfolding glitch_of
 glitch-sound s = (
-  λ e. let a = neither (any_glitch (guarded_trap s) || any_glitch (guarded_cfg s) || any_glitch (guarded_low s)) (any_glitch (guarded_high s)) e in
+  λ e. let a = neither (any_glitch (guarded_trap s) || any_glitch (guarded_cfg s) || any_glitch (guarded_low s))
+      (any_glitch (guarded_high s)) e in
       let b = neither (any_glitch (guarded_trap s) || any_glitch (guarded_cfg s)) (any_glitch (guarded_low s)) a.0 in
       let c = neither (any_glitch (guarded_trap s)) (any_glitch (guarded_cfg s)) b.0 in
-      record { trap = none_wrong (guarded_trap s) c.0; cfg = none_wrong (guarded_cfg s) c.1; low = none_wrong (guarded_low s) b.1; high = none_wrong (guarded_high s) a.1 },
-  λ h. simp (all_right (guarded_trap s) h.trap, all_right (guarded_cfg s) h.cfg, all_right (guarded_low s) h.low, all_right (guarded_high s) h.high),
+      record {
+        trap = none_wrong (guarded_trap s) c.0;
+        cfg = none_wrong (guarded_cfg s) c.1;
+        low = none_wrong (guarded_low s) b.1;
+        high = none_wrong (guarded_high s) a.1;
+      },
+  λ h. simp (
+    all_right (guarded_trap s) h.trap,
+    all_right (guarded_cfg s) h.cfg,
+    all_right (guarded_low s) h.low,
+    all_right (guarded_high s) h.high,
+  ),
 )
 
+-- whichever of two states a test chooses
 either : (b : Bool) (x y : Csrs) → Complemented x → Complemented y → Complemented (if b then x else y)
 either true x y p q = p
 either false x y p q = q
@@ -53,9 +72,12 @@ replaced [] k w h = tt
 replaced (p ∷ ps) zero w h = (refl, h.1)
 replaced (p ∷ ps) (suc k) w h = (h.0, replaced ps k w h.1)
 
-complemented : (s : Csrs) → AreComplements (guarded_trap s) → AreComplements (guarded_cfg s) → AreComplements (guarded_low s) → AreComplements (guarded_high s) → Complemented s
+-- the four groups make the whole
+complemented : (s : Csrs) → AreComplements (guarded_trap s) → AreComplements (guarded_cfg s)
+    → AreComplements (guarded_low s) → AreComplements (guarded_high s) → Complemented s
 complemented s trap cfg low high = record { trap = trap; cfg = cfg; low = low; high = high }
 
+-- each word of configuration and each address is put with its complement
 put_cfg-sound : (s : Csrs) (k w : ℕ) → Complemented s → Complemented (put_cfg s k w)
 put_cfg-sound s k w h =
     either (k == 0) _ _ (complemented _ h.trap (replaced (guarded_cfg s) 0 w h.cfg) h.low h.high)
@@ -84,6 +106,7 @@ put_addr-sound s k w h =
     (either (k == 15) _ _ (complemented _ h.trap h.cfg h.low (replaced (guarded_high s) 7 w h.high))
     h)))))))))))))))
 
+-- so every write keeps the complements: of one register, of one that there may be, and of an address
 put-sound : (s : Csrs) (c : Csr) (w : ℕ) → Complemented s → Complemented (put_of s c w)
 unfolding put_of
 put-sound s Mstatus w h = complemented _ (replaced (guarded_trap s) 0 _ h.trap) h.cfg h.low h.high

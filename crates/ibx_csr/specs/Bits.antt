@@ -3,7 +3,9 @@ use Rattle.std.specs.Prelude.{ℕ, ◌+◌, ◌-◌, ◌^◌, Bool, true, false,
 use Rattle.ibx_bits.specs.Platform.{interrupt_lines}
 use Rattle.ibx_isa.specs.ControlBits.{mie_bit, mpie_bit, mpp_bits, mprv_bit, tw_bit, cy_bit, ir_bit}
 use Rattle.ibx_csr.specs.declared.name.Csr.{Csr}
-use Rattle.ibx_csr.specs.declared.name.Csr.TheVariants.{Mstatus, Misa, Mie, Mtvec, Mcountinhibit, Mscratch, Mepc, Mcause, Mtval, Mip, Pmpcfg, Pmpaddr, Cpuctrl, Secureseed, Mcycle, Mcycleh, Minstret, Minstreth, Marchid, Zero}
+use Rattle.ibx_csr.specs.declared.name.Csr.TheVariants.{Mstatus, Misa, Mie, Mtvec, Mcountinhibit, Mscratch, Mepc}
+use Rattle.ibx_csr.specs.declared.name.Csr.TheVariants.{Mcause, Mtval, Mip, Pmpcfg, Pmpaddr, Cpuctrl, Secureseed}
+use Rattle.ibx_csr.specs.declared.name.Csr.TheVariants.{Mcycle, Mcycleh, Minstret, Minstreth, Marchid, Zero}
 use Rattle.ibx_csr.specs.declared.bits.CsrBits.{CsrBits}
 use Rattle.ibx_csr.specs.Table.{csr_of}
 
@@ -42,6 +44,7 @@ bits_of Zero = row 0 0 false
 abbrev pub legal : CsrBits → ℕ → ℕ
 legal r word = bit_or (bit_and word r.kept) (bit_and r.value (2 ^ 32 - 1 - r.kept))
 
+-- a word as this register holds it
 abbrev pub legal_of : Csr → ℕ → ℕ
 legal_of c word = legal (bits_of c) word
 
@@ -53,6 +56,7 @@ at_reset c = (bits_of c).value
 abbrev pub is_control : Csr → Bool
 is_control c = (bits_of c).control
 
+-- the same where there may be no register
 abbrev pub is_control_in : Option Csr → Bool
 is_control_in (Some c) = is_control c
 is_control_in None = false

@@ -1,11 +1,14 @@
 -- The registers as the fields of the unit, with the complements of the guarded ones; each call has a meaning
 -- on every value of the fields.
-use Rattle.std.specs.Prelude.{◌≡◌, ℕ, ◌^◌, List, [], ◌∷◌, Option, Some, None, Bool, true, not, ◌||◌, ◌==◌, if◌then◌else◌, slice_index, ◌+◌, ◌%◌, bit_and}
+use Rattle.std.specs.Prelude.{◌≡◌, ℕ, ◌^◌, List, [], ◌∷◌, Option, Some, None, Bool, true, not, ◌||◌, ◌==◌}
+use Rattle.std.specs.Prelude.{if◌then◌else◌, slice_index, ◌+◌, ◌%◌, bit_and}
 use Rattle.std.specs.List.{list_any}
 use Rattle.ibx_bits.specs.Bytes.{complement}
 use Rattle.ibx_isa.specs.declared.trap.TrapRegs.{TrapRegs}
 use Rattle.ibx_csr.specs.declared.name.Csr.{Csr}
-use Rattle.ibx_csr.specs.declared.name.Csr.TheVariants.{Mstatus, Mie, Mtvec, Mcountinhibit, Mscratch, Mepc, Mcause, Mtval, Pmpcfg, Pmpaddr, Cpuctrl, Mcycle, Mcycleh, Minstret, Minstreth}
+use Rattle.ibx_csr.specs.declared.name.Csr.TheVariants.{Mstatus, Mie, Mtvec, Mcountinhibit, Mscratch, Mepc, Mcause}
+use Rattle.ibx_csr.specs.declared.name.Csr.TheVariants.{Mtval, Pmpcfg, Pmpaddr, Cpuctrl, Mcycle, Mcycleh, Minstret}
+use Rattle.ibx_csr.specs.declared.name.Csr.TheVariants.{Minstreth}
 use Rattle.ibx_csr.specs.declared.csrs.Csrs.{Csrs}
 use Rattle.ibx_csr.specs.Table.{writable}
 use Rattle.ibx_csr.specs.Kept.{stored_mstatus, with_low, with_high, stored_cfg, is_addr_locked}
@@ -18,7 +21,8 @@ abbrev pub cfgs : Csrs → List ℕ
 cfgs s = s.pmpcfg0 ∷ s.pmpcfg1 ∷ s.pmpcfg2 ∷ s.pmpcfg3 ∷ []
 
 abbrev pub addrs : Csrs → List ℕ
-addrs s = s.pmpaddr0 ∷ s.pmpaddr1 ∷ s.pmpaddr2 ∷ s.pmpaddr3 ∷ s.pmpaddr4 ∷ s.pmpaddr5 ∷ s.pmpaddr6 ∷ s.pmpaddr7 ∷ s.pmpaddr8 ∷ s.pmpaddr9 ∷ s.pmpaddr10 ∷ s.pmpaddr11 ∷ s.pmpaddr12 ∷ s.pmpaddr13 ∷ s.pmpaddr14 ∷ s.pmpaddr15 ∷ []
+addrs s = s.pmpaddr0 ∷ s.pmpaddr1 ∷ s.pmpaddr2 ∷ s.pmpaddr3 ∷ s.pmpaddr4 ∷ s.pmpaddr5 ∷ s.pmpaddr6 ∷ s.pmpaddr7
+    ∷ s.pmpaddr8 ∷ s.pmpaddr9 ∷ s.pmpaddr10 ∷ s.pmpaddr11 ∷ s.pmpaddr12 ∷ s.pmpaddr13 ∷ s.pmpaddr14 ∷ s.pmpaddr15 ∷ []
 
 -- the registers without the complements
 unfoldable pub values : Csrs → CsrValues
@@ -41,63 +45,64 @@ values s = record {
 
 -- at reset, with the complements
 unfoldable pub reset_of : ℕ → Csrs
-reset_of entry = let mtvec = legal_of Mtvec entry in let cfg = at_reset (Pmpcfg 0) in let addr = at_reset (Pmpaddr 0) in record {
-  priv_ = true;
-  mstatus = at_reset Mstatus;
-  mie = at_reset Mie;
-  mtvec = mtvec;
-  mscratch = at_reset Mscratch;
-  mepc = at_reset Mepc;
-  mcause = at_reset Mcause;
-  mtval = at_reset Mtval;
-  cpuctrl = at_reset Cpuctrl;
-  mcountinhibit = at_reset Mcountinhibit;
-  mcycle = 0;
-  minstret = 0;
-  pmpcfg0 = cfg;
-  pmpcfg1 = cfg;
-  pmpcfg2 = cfg;
-  pmpcfg3 = cfg;
-  pmpaddr0 = addr;
-  pmpaddr1 = addr;
-  pmpaddr2 = addr;
-  pmpaddr3 = addr;
-  pmpaddr4 = addr;
-  pmpaddr5 = addr;
-  pmpaddr6 = addr;
-  pmpaddr7 = addr;
-  pmpaddr8 = addr;
-  pmpaddr9 = addr;
-  pmpaddr10 = addr;
-  pmpaddr11 = addr;
-  pmpaddr12 = addr;
-  pmpaddr13 = addr;
-  pmpaddr14 = addr;
-  pmpaddr15 = addr;
-  mstatus_n = complement (at_reset Mstatus);
-  mtvec_n = complement mtvec;
-  cpuctrl_n = complement (at_reset Cpuctrl);
-  pmpcfg0_n = complement cfg;
-  pmpcfg1_n = complement cfg;
-  pmpcfg2_n = complement cfg;
-  pmpcfg3_n = complement cfg;
-  pmpaddr0_n = complement addr;
-  pmpaddr1_n = complement addr;
-  pmpaddr2_n = complement addr;
-  pmpaddr3_n = complement addr;
-  pmpaddr4_n = complement addr;
-  pmpaddr5_n = complement addr;
-  pmpaddr6_n = complement addr;
-  pmpaddr7_n = complement addr;
-  pmpaddr8_n = complement addr;
-  pmpaddr9_n = complement addr;
-  pmpaddr10_n = complement addr;
-  pmpaddr11_n = complement addr;
-  pmpaddr12_n = complement addr;
-  pmpaddr13_n = complement addr;
-  pmpaddr14_n = complement addr;
-  pmpaddr15_n = complement addr;
-}
+reset_of entry =
+    let mtvec = legal_of Mtvec entry in let cfg = at_reset (Pmpcfg 0) in let addr = at_reset (Pmpaddr 0) in record {
+      priv_ = true;
+      mstatus = at_reset Mstatus;
+      mie = at_reset Mie;
+      mtvec = mtvec;
+      mscratch = at_reset Mscratch;
+      mepc = at_reset Mepc;
+      mcause = at_reset Mcause;
+      mtval = at_reset Mtval;
+      cpuctrl = at_reset Cpuctrl;
+      mcountinhibit = at_reset Mcountinhibit;
+      mcycle = 0;
+      minstret = 0;
+      pmpcfg0 = cfg;
+      pmpcfg1 = cfg;
+      pmpcfg2 = cfg;
+      pmpcfg3 = cfg;
+      pmpaddr0 = addr;
+      pmpaddr1 = addr;
+      pmpaddr2 = addr;
+      pmpaddr3 = addr;
+      pmpaddr4 = addr;
+      pmpaddr5 = addr;
+      pmpaddr6 = addr;
+      pmpaddr7 = addr;
+      pmpaddr8 = addr;
+      pmpaddr9 = addr;
+      pmpaddr10 = addr;
+      pmpaddr11 = addr;
+      pmpaddr12 = addr;
+      pmpaddr13 = addr;
+      pmpaddr14 = addr;
+      pmpaddr15 = addr;
+      mstatus_n = complement (at_reset Mstatus);
+      mtvec_n = complement mtvec;
+      cpuctrl_n = complement (at_reset Cpuctrl);
+      pmpcfg0_n = complement cfg;
+      pmpcfg1_n = complement cfg;
+      pmpcfg2_n = complement cfg;
+      pmpcfg3_n = complement cfg;
+      pmpaddr0_n = complement addr;
+      pmpaddr1_n = complement addr;
+      pmpaddr2_n = complement addr;
+      pmpaddr3_n = complement addr;
+      pmpaddr4_n = complement addr;
+      pmpaddr5_n = complement addr;
+      pmpaddr6_n = complement addr;
+      pmpaddr7_n = complement addr;
+      pmpaddr8_n = complement addr;
+      pmpaddr9_n = complement addr;
+      pmpaddr10_n = complement addr;
+      pmpaddr11_n = complement addr;
+      pmpaddr12_n = complement addr;
+      pmpaddr13_n = complement addr;
+      pmpaddr14_n = complement addr;
+      pmpaddr15_n = complement addr;
+    }
 
 -- a word of configuration or an address with its complement; there is none of a higher number
 abbrev pub put_cfg : Csrs → ℕ → ℕ → Csrs
@@ -147,6 +152,7 @@ put_of s Minstret w = record s { minstret = with_low s.minstret w }
 put_of s Minstreth w = record s { minstret = with_high s.minstret w }
 put_of s _ w = s
 
+-- a write to the register that there is, if there is one
 abbrev pub put_at : Csrs → ℕ → Option Csr → Csrs
 put_at s w (Some c) = put_of s c w
 put_at s w None = s
@@ -181,18 +187,24 @@ with_regs s r = let k = kept_regs r in record s {
   cpuctrl_n = complement k.cpuctrl;
 }
 
--- each guarded register, and its complement
+-- each guarded register with its complement: those of traps, the words of configuration, and the addresses of entries
+-- 0 to 7 and 8 to 15
 abbrev pub guarded_trap : Csrs → List (ℕ × ℕ)
 guarded_trap s = (s.mstatus, s.mstatus_n) ∷ (s.mtvec, s.mtvec_n) ∷ (s.cpuctrl, s.cpuctrl_n) ∷ []
 
 abbrev pub guarded_cfg : Csrs → List (ℕ × ℕ)
-guarded_cfg s = (s.pmpcfg0, s.pmpcfg0_n) ∷ (s.pmpcfg1, s.pmpcfg1_n) ∷ (s.pmpcfg2, s.pmpcfg2_n) ∷ (s.pmpcfg3, s.pmpcfg3_n) ∷ []
+guarded_cfg s =
+    (s.pmpcfg0, s.pmpcfg0_n) ∷ (s.pmpcfg1, s.pmpcfg1_n) ∷ (s.pmpcfg2, s.pmpcfg2_n) ∷ (s.pmpcfg3, s.pmpcfg3_n) ∷ []
 
 abbrev pub guarded_low : Csrs → List (ℕ × ℕ)
-guarded_low s = (s.pmpaddr0, s.pmpaddr0_n) ∷ (s.pmpaddr1, s.pmpaddr1_n) ∷ (s.pmpaddr2, s.pmpaddr2_n) ∷ (s.pmpaddr3, s.pmpaddr3_n) ∷ (s.pmpaddr4, s.pmpaddr4_n) ∷ (s.pmpaddr5, s.pmpaddr5_n) ∷ (s.pmpaddr6, s.pmpaddr6_n) ∷ (s.pmpaddr7, s.pmpaddr7_n) ∷ []
+guarded_low s = (s.pmpaddr0, s.pmpaddr0_n) ∷ (s.pmpaddr1, s.pmpaddr1_n) ∷ (s.pmpaddr2, s.pmpaddr2_n)
+    ∷ (s.pmpaddr3, s.pmpaddr3_n) ∷ (s.pmpaddr4, s.pmpaddr4_n) ∷ (s.pmpaddr5, s.pmpaddr5_n) ∷ (s.pmpaddr6, s.pmpaddr6_n)
+    ∷ (s.pmpaddr7, s.pmpaddr7_n) ∷ []
 
 abbrev pub guarded_high : Csrs → List (ℕ × ℕ)
-guarded_high s = (s.pmpaddr8, s.pmpaddr8_n) ∷ (s.pmpaddr9, s.pmpaddr9_n) ∷ (s.pmpaddr10, s.pmpaddr10_n) ∷ (s.pmpaddr11, s.pmpaddr11_n) ∷ (s.pmpaddr12, s.pmpaddr12_n) ∷ (s.pmpaddr13, s.pmpaddr13_n) ∷ (s.pmpaddr14, s.pmpaddr14_n) ∷ (s.pmpaddr15, s.pmpaddr15_n) ∷ []
+guarded_high s = (s.pmpaddr8, s.pmpaddr8_n) ∷ (s.pmpaddr9, s.pmpaddr9_n) ∷ (s.pmpaddr10, s.pmpaddr10_n)
+    ∷ (s.pmpaddr11, s.pmpaddr11_n) ∷ (s.pmpaddr12, s.pmpaddr12_n) ∷ (s.pmpaddr13, s.pmpaddr13_n)
+    ∷ (s.pmpaddr14, s.pmpaddr14_n) ∷ (s.pmpaddr15, s.pmpaddr15_n) ∷ []
 
 -- the second word of each pair is the complement of the first
 abbrev pub AreComplements : List (ℕ × ℕ) → Type 0
@@ -206,9 +218,11 @@ pub record Complemented (s : Csrs) : Type 0 where
   pub low : AreComplements (guarded_low s)
   pub high : AreComplements (guarded_high s)
 
+-- a second word isn't the complement of the first
 abbrev pub any_glitch : List (ℕ × ℕ) → Bool
 any_glitch ps = list_any (λ p. not (p.1 == complement p.0)) ps
 
 -- whether some complement isn't one
 unfoldable pub glitch_of : Csrs → Bool
-glitch_of s = any_glitch (guarded_trap s) || any_glitch (guarded_cfg s) || any_glitch (guarded_low s) || any_glitch (guarded_high s)
+glitch_of s = any_glitch (guarded_trap s) || any_glitch (guarded_cfg s) || any_glitch (guarded_low s)
+    || any_glitch (guarded_high s)

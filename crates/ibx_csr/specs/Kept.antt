@@ -1,5 +1,6 @@
 -- What a write leaves in the registers that have a rule beside their bits.
-use Rattle.std.specs.Prelude.{ℕ, ◌+◌, ◌-◌, ◌*◌, ◌/◌, ◌%◌, ◌^◌, Bool, not, ◌||◌, List, [], ◌∷◌, bit_and, ◌==◌, if◌then◌else◌, slice_index}
+use Rattle.std.specs.Prelude.{ℕ, ◌+◌, ◌-◌, ◌*◌, ◌/◌, ◌%◌, ◌^◌, Bool, not, ◌||◌, List, [], ◌∷◌, bit_and, ◌==◌}
+use Rattle.std.specs.Prelude.{if◌then◌else◌, slice_index}
 use Rattle.ibx_bits.specs.Bytes.{word_byte}
 use Rattle.std.specs.Int.{w32, from_le_bytes}
 use Rattle.ibx_isa.specs.ControlBits.{mpp_bits}
@@ -36,9 +37,11 @@ legal_byte b = if bit_and b 3 == 2 then bit_and b 0x9d else bit_and b 0x9f
 abbrev pub kept_byte : ℕ → ℕ → ℕ
 kept_byte old new = if bit_and old 0x80 == 0 then legal_byte new else old
 
+-- the word of configuration after a write, byte by byte
 abbrev pub stored_cfg : ℕ → ℕ → ℕ
 stored_cfg old v =
-    from_le_bytes w32 (kept_byte (word_byte old 0) (word_byte v 0) ∷ kept_byte (word_byte old 1) (word_byte v 1) ∷ kept_byte (word_byte old 2) (word_byte v 2) ∷ kept_byte (word_byte old 3) (word_byte v 3) ∷ [])
+    from_le_bytes w32 (kept_byte (word_byte old 0) (word_byte v 0) ∷ kept_byte (word_byte old 1) (word_byte v 1)
+    ∷ kept_byte (word_byte old 2) (word_byte v 2) ∷ kept_byte (word_byte old 3) (word_byte v 3) ∷ [])
 
 -- the bytes of words, in the order of the entries
 abbrev pub bytes_of : List ℕ → List ℕ

@@ -1,8 +1,11 @@
 -- The addresses of the control and status registers (RISC-V Privileged ISA 1.12, chapter 2, tables 2.5 and
 -- 2.6; cpuctrl and secureseed are our own).
-use Rattle.std.specs.Prelude.{ℕ, ◌-◌, ◌/◌, ◌%◌, List, [], ◌∷◌, Option, Some, None, Bool, nat_le, ◌&&◌, ◌==◌, if◌then◌else◌}
+use Rattle.std.specs.Prelude.{ℕ, ◌-◌, ◌/◌, ◌%◌, List, [], ◌∷◌, Option, Some, None, Bool, nat_le, ◌&&◌, ◌==◌}
+use Rattle.std.specs.Prelude.{if◌then◌else◌}
 use Rattle.ibx_csr.specs.declared.name.Csr.{Csr}
-use Rattle.ibx_csr.specs.declared.name.Csr.TheVariants.{Mstatus, Misa, Mie, Mtvec, Mcountinhibit, Mscratch, Mepc, Mcause, Mtval, Mip, Pmpcfg, Pmpaddr, Cpuctrl, Secureseed, Mcycle, Mcycleh, Minstret, Minstreth, Marchid, Zero}
+use Rattle.ibx_csr.specs.declared.name.Csr.TheVariants.{Mstatus, Misa, Mie, Mtvec, Mcountinhibit, Mscratch, Mepc}
+use Rattle.ibx_csr.specs.declared.name.Csr.TheVariants.{Mcause, Mtval, Mip, Pmpcfg, Pmpaddr, Cpuctrl, Secureseed}
+use Rattle.ibx_csr.specs.declared.name.Csr.TheVariants.{Mcycle, Mcycleh, Minstret, Minstreth, Marchid, Zero}
 
 -- the addresses from first to last, and the register at each, by its distance from first
 pub record Row : Type 0 where
@@ -10,6 +13,7 @@ pub record Row : Type 0 where
   pub last : ℕ
   pub register : ℕ → Csr
 
+-- a row of one address, and one of several
 abbrev pub one : ℕ → Csr → Row
 one a c = record { first = a; last = a; register = λ _. c }
 
@@ -29,6 +33,7 @@ rows =
     ∷ several 0xb83 0xb9f (λ _. Zero) ∷ one 0xf11 Zero ∷ one 0xf12 Marchid ∷ one 0xf13 Zero
     ∷ one 0xf14 Zero ∷ one 0xf15 Zero ∷ []
 
+-- the register of the first row that has the address
 abbrev pub find_row : ℕ → List Row → Option Csr
 find_row a [] = None
 find_row a (r ∷ rs) = if nat_le r.first a && nat_le a r.last then Some (r.register (a - r.first)) else find_row a rs
@@ -45,5 +50,6 @@ readable machine a = if machine then csr_of a else None
 abbrev pub is_read_only : ℕ → Bool
 is_read_only a = a / 0x400 % 4 == 3
 
+-- the register that a mode may write at an address: none at a read-only one
 abbrev pub writable : Bool → ℕ → Option Csr
 writable machine a = if is_read_only a then None else readable machine a

@@ -1,12 +1,16 @@
 -- The registers as an instruction sees them, and what reads, writes and time do to them.
-use Rattle.std.specs.Prelude.{◌≡◌, ◌≢◌, ℕ, ◌+◌, ◌/◌, ◌%◌, ◌^◌, List, [], ◌∷◌, Option, Some, None, Bool, true, false, not, ◌||◌, bit_and, ◌==◌, if◌then◌else◌, slice_index, slice_set}
+use Rattle.std.specs.Prelude.{◌≡◌, ◌≢◌, ℕ, ◌+◌, ◌/◌, ◌%◌, ◌^◌, List, [], ◌∷◌, Option, Some, None, Bool, true, false}
+use Rattle.std.specs.Prelude.{not, ◌||◌, bit_and, ◌==◌, if◌then◌else◌, slice_index, slice_set}
 use Rattle.ibx_isa.specs.declared.trap.TrapRegs.{TrapRegs}
 use Rattle.ibx_csr.specs.declared.name.Csr.{Csr}
-use Rattle.ibx_csr.specs.declared.name.Csr.TheVariants.{Mstatus, Mie, Mtvec, Mcountinhibit, Mscratch, Mepc, Mcause, Mtval, Mip, Pmpcfg, Pmpaddr, Cpuctrl, Mcycle, Mcycleh, Minstret, Minstreth}
+use Rattle.ibx_csr.specs.declared.name.Csr.TheVariants.{Mstatus, Mie, Mtvec, Mcountinhibit, Mscratch, Mepc, Mcause}
+use Rattle.ibx_csr.specs.declared.name.Csr.TheVariants.{Mtval, Mip, Pmpcfg, Pmpaddr, Cpuctrl, Mcycle, Mcycleh}
+use Rattle.ibx_csr.specs.declared.name.Csr.TheVariants.{Minstret, Minstreth}
 use Rattle.ibx_isa.specs.ControlBits.{cy_bit, ir_bit}
 use Rattle.ibx_csr.specs.Bits.{legal_of, at_reset}
 use Rattle.ibx_csr.specs.Table.{csr_of, readable, writable}
-use Rattle.ibx_csr.specs.Kept.{kept_mstatus, stored_mstatus, kept_mtvec, kept_mepc, with_low, with_high, stored_cfg, bytes_of, is_addr_locked}
+use Rattle.ibx_csr.specs.Kept.{kept_mstatus, stored_mstatus, kept_mtvec, kept_mepc, with_low, with_high, stored_cfg}
+use Rattle.ibx_csr.specs.Kept.{bytes_of, is_addr_locked}
 
 -- the mode, true for M, the registers, and the counters with 64 bits; four words of configuration and
 -- sixteen addresses of the protection unit
@@ -42,7 +46,9 @@ csr_reset entry = let cfg = at_reset (Pmpcfg 0) in let addr = at_reset (Pmpaddr 
   mcycle = 0;
   minstret = 0;
   pmpcfg = cfg ∷ cfg ∷ cfg ∷ cfg ∷ [];
-  pmpaddr = addr ∷ addr ∷ addr ∷ addr ∷ addr ∷ addr ∷ addr ∷ addr ∷ addr ∷ addr ∷ addr ∷ addr ∷ addr ∷ addr ∷ addr ∷ addr ∷ [];
+  pmpaddr =
+      addr ∷ addr ∷ addr ∷ addr ∷ addr ∷ addr ∷ addr ∷ addr ∷ addr ∷ addr ∷ addr ∷ addr ∷ addr ∷ addr ∷ addr ∷ addr
+      ∷ [];
 }
 
 -- what a register reads; mip reads the interrupt lines
@@ -65,6 +71,7 @@ value_of v Minstret lines = v.minstret % 2 ^ 32
 value_of v Minstreth lines = v.minstret / 2 ^ 32
 value_of v c lines = at_reset c
 
+-- what the register reads that there is, if there is one
 abbrev pub value_at : CsrValues → ℕ → Option Csr → Option ℕ
 value_at v lines (Some c) = Some (value_of v c lines)
 value_at v lines None = None
@@ -89,7 +96,8 @@ put_value v Mepc w = record v { mepc = legal_of Mepc w }
 put_value v Mcause w = record v { mcause = legal_of Mcause w }
 put_value v Mtval w = record v { mtval = legal_of Mtval w }
 put_value v (Pmpcfg k) w = record v { pmpcfg = slice_set v.pmpcfg k (stored_cfg (slice_index v.pmpcfg k) w) }
-put_value v (Pmpaddr k) w = if is_addr_locked (cfg_bytes v) k then v else record v { pmpaddr = slice_set v.pmpaddr k w }
+put_value v (Pmpaddr k) w =
+    if is_addr_locked (cfg_bytes v) k then v else record v { pmpaddr = slice_set v.pmpaddr k w }
 put_value v Cpuctrl w = record v { cpuctrl = legal_of Cpuctrl w }
 put_value v Mcycle w = record v { mcycle = with_low v.mcycle w }
 put_value v Mcycleh w = record v { mcycle = with_high v.mcycle w }
@@ -97,6 +105,7 @@ put_value v Minstret w = record v { minstret = with_low v.minstret w }
 put_value v Minstreth w = record v { minstret = with_high v.minstret w }
 put_value v _ w = v
 
+-- whether there is a register
 abbrev pub is_there : Option Csr → Bool
 is_there (Some c) = true
 is_there None = false
@@ -105,6 +114,7 @@ is_there None = false
 unfoldable pub csr_can_write : CsrValues → ℕ → Bool
 csr_can_write v a = is_there (writable v.machine a)
 
+-- a write to the register that there is, if there is one
 abbrev pub put_at : CsrValues → ℕ → Option Csr → CsrValues
 put_at v w (Some c) = put_value v c w
 put_at v w None = v
@@ -127,12 +137,14 @@ writes_half low high None = false
 abbrev pub counted : ℕ → Bool → ℕ
 counted count stands = if stands then count else (count + 1) % 2 ^ 64
 
+-- whether mcycle stands still: one of its halves is written, or it is inhibited
 abbrev pub mcycle_stands : ℕ → Option ℕ → Bool
 mcycle_stands inhibit wrote = writes_half 0xb00 0xb80 wrote || not (bit_and inhibit cy_bit == 0)
 
 -- minstret counts the retired instructions, and not the one that writes it
 abbrev pub minstret_stands : ℕ → Bool → Option ℕ → Bool
-minstret_stands inhibit retired wrote = not retired || writes_half 0xb02 0xb82 wrote || not (bit_and inhibit ir_bit == 0)
+minstret_stands inhibit retired wrote =
+    not retired || writes_half 0xb02 0xb82 wrote || not (bit_and inhibit ir_bit == 0)
 
 -- One cycle, before the write that is made in it: whether an instruction retires, and the address that it
 -- writes.
@@ -144,11 +156,20 @@ csr_tick v retired wrote = record v {
 
 -- n cycles without a retirement and a write
 unfoldable pub counters_after : CsrValues → ℕ → CsrValues
-counters_after v n = record v { mcycle = if bit_and v.mcountinhibit cy_bit == 0 then (v.mcycle + n) % 2 ^ 64 else v.mcycle }
+counters_after v n =
+    record v { mcycle = if bit_and v.mcountinhibit cy_bit == 0 then (v.mcycle + n) % 2 ^ 64 else v.mcycle }
 
 -- the registers that a trap reads
 abbrev pub trap_regs : CsrValues → TrapRegs
-trap_regs v = record { machine = v.machine; mstatus = v.mstatus; mtvec = v.mtvec; mepc = v.mepc; mcause = v.mcause; mtval = v.mtval; cpuctrl = v.cpuctrl }
+trap_regs v = record {
+  machine = v.machine;
+  mstatus = v.mstatus;
+  mtvec = v.mtvec;
+  mepc = v.mepc;
+  mcause = v.mcause;
+  mtval = v.mtval;
+  cpuctrl = v.cpuctrl;
+}
 
 -- those registers within the bits that they keep
 abbrev pub kept_regs : TrapRegs → TrapRegs
@@ -164,4 +185,14 @@ kept_regs r = record {
 
 -- what a trap leaves
 unfoldable pub with_trap_regs : CsrValues → TrapRegs → CsrValues
-with_trap_regs v r = let k = kept_regs r in record v { machine = k.machine; mstatus = k.mstatus; mtvec = k.mtvec; mepc = k.mepc; mcause = k.mcause; mtval = k.mtval; cpuctrl = k.cpuctrl }
+with_trap_regs v r =
+    let k = kept_regs r in
+    record v {
+      machine = k.machine;
+      mstatus = k.mstatus;
+      mtvec = k.mtvec;
+      mepc = k.mepc;
+      mcause = k.mcause;
+      mtval = k.mtval;
+      cpuctrl = k.cpuctrl;
+    }

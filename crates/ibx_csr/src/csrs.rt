@@ -453,6 +453,3 @@ fn entry_at(bytes: &[u8], index: usize) -> u8
         None => 0,
     }
 }
-
-#[cfg(test)]
-mod tests;

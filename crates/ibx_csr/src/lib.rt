@@ -7,6 +7,8 @@ mod fields;
 mod guard;
 mod kept;
 mod name;
+#[cfg(test)]
+mod tests;
 
 pub use bits::{CsrBits, is_control_at};
 pub use csrs::{Csrs, PmpView};

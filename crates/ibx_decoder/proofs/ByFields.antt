@@ -1,11 +1,14 @@
--- The rows of 32-bit instructions by the fields of a word: the opcode in bits 6:0, funct3 in bits 14:12 and funct7 in bits 31:25.
-use Rattle.std.proofs.Common.{◌≡◌, ℕ, ◌+◌, ◌*◌, ◌/◌, ◌%◌, ◌^◌, ◌<◌, Bool, true, false, eqb, cond, List, [], ◌∷◌, Option, Some, None, refl, sym, ap, ◌∙◌, arith, inl, inr, ◌≢◌}
+-- The rows of 32-bit instructions by the fields of a word: the opcode in bits 6:0, funct3 in bits 14:12 and funct7 in
+-- bits 31:25.
+use Rattle.std.proofs.Common.{◌≡◌, ℕ, ◌+◌, ◌*◌, ◌/◌, ◌%◌, ◌^◌, ◌<◌, Bool, true, false, eqb, cond, List, [], ◌∷◌}
+use Rattle.std.proofs.Common.{Option, Some, None, refl, sym, ap, ◌∙◌, arith, inl, inr, ◌≢◌}
 use Rattle.std.specs.Prelude.{◌&&◌, bit_and}
 use Rattle.std.specs.Int.Bits.{and_mask, and_block}
 use Rattle.std.proofs.lemmas.Nat.{shr_split}
 use Rattle.std.proofs.lemmas.Bool.{eqb-true, eq-eqb, ne_eqb, and_parts, and_from, both_ways, cases_eq}
 use Rattle.ibx_isa.specs.declared.insn.Insn.{Insn}
-use Rattle.ibx_isa.specs.declared.insn.Insn.TheVariants.{Lui, Auipc, Jal, Jalr, Branch, Load, Store, AluImm, Alu, MulDiv, Csr, Fence, FenceI, Ecall, Ebreak, Mret, Wfi}
+use Rattle.ibx_isa.specs.declared.insn.Insn.TheVariants.{Lui, Auipc, Jal, Jalr, Branch, Load, Store, AluImm, Alu}
+use Rattle.ibx_isa.specs.declared.insn.Insn.TheVariants.{MulDiv, Csr, Fence, FenceI, Ecall, Ebreak, Mret, Wfi}
 use Rattle.ibx_isa.specs.declared.insn.BranchOp.TheVariants.{Eq, Ne, Lt, Ge, Ltu, Geu}
 use Rattle.ibx_isa.specs.declared.insn.LoadOp.TheVariants.{Lb, Lh, Lw, Lbu, Lhu}
 use Rattle.ibx_isa.specs.declared.insn.AluOp.TheVariants.{Add, Sub, Sll, Slt, Sltu, Xor, Srl, Sra, Or, And}
@@ -17,6 +20,7 @@ use Rattle.ibx_decoder.proofs.SameTest.{same_test}
 
 -- ---- what each mask leaves
 
+-- the opcode and funct3; those and funct7; the whole word
 mask_f3 : (w : ℕ) → bit_and w 0x707f ≡ w / 4096 % 8 * 4096 + w % 128
 mask_f3 w =
     ap (λ (x : ℕ). bit_and x 0x707f) (sym (shr_split w 12))
@@ -34,29 +38,41 @@ mask_all w h = and_mask w 32 ∙ omega arith
 
 -- ---- a test of a word is the test of its fields
 
-test_f3 : (w m : ℕ) → m / 32768 ≡ 0 → m / 128 % 32 ≡ 0 → eqb (bit_and w 0x707f) m ≡ (eqb (bit_and w 127) (m % 128) && eqb (bit_and (w / 4096) 7) (m / 4096 % 8))
+-- one for each of those three masks
+test_f3 : (w m : ℕ) → m / 32768 ≡ 0 → m / 128 % 32 ≡ 0
+    → eqb (bit_and w 0x707f) m ≡ (eqb (bit_and w 127) (m % 128) && eqb (bit_and (w / 4096) 7) (m / 4096 % 8))
 test_f3 w m h0 h1 =
     let op : bit_and w 127 ≡ w % 128 = and_mask w 7 in
     let f3 : bit_and (w / 4096) 7 ≡ w / 4096 % 8 = and_mask (w / 4096) 3 in
     rw (op, f3, mask_f3 w)
     (same_test (eqb (w / 4096 % 8 * 4096 + w % 128) m) (eqb (w % 128) (m % 128) && eqb (w / 4096 % 8) (m / 4096 % 8))
-    (λ e. let e' = eqb-true _ _ e in and_from _ _ (eq-eqb (w % 128) (m % 128) (omega (arith, e'))) (eq-eqb (w / 4096 % 8) (m / 4096 % 8) (omega (arith, e'))))
+    (λ e. let e' = eqb-true _ _ e in and_from _ _ (eq-eqb (w % 128) (m % 128) (omega (arith, e')))
+    (eq-eqb (w / 4096 % 8) (m / 4096 % 8) (omega (arith, e'))))
     (λ e. let p = and_parts (eqb (w % 128) (m % 128)) (eqb (w / 4096 % 8) (m / 4096 % 8)) e in
     eq-eqb _ _ (omega (arith, eqb-true (w % 128) (m % 128) p.0, eqb-true (w / 4096 % 8) (m / 4096 % 8) p.1))))
 
 test_f7 : (w m : ℕ) → w < 2 ^ 32 → m < 2 ^ 32 → m / 32768 % 1024 ≡ 0 → m / 128 % 32 ≡ 0
-    → eqb (bit_and w 0xfe00707f) m ≡ (eqb (bit_and w 127) (m % 128) && (eqb (bit_and (w / 4096) 7) (m / 4096 % 8) && eqb (w / 33554432) (m / 33554432)))
+    → eqb (bit_and w 0xfe00707f) m ≡ (eqb (bit_and w 127) (m % 128)
+    && (eqb (bit_and (w / 4096) 7) (m / 4096 % 8) && eqb (w / 33554432) (m / 33554432)))
 test_f7 w m h hm h0 h1 =
     let op : bit_and w 127 ≡ w % 128 = and_mask w 7 in
     let f3 : bit_and (w / 4096) 7 ≡ w / 4096 % 8 = and_mask (w / 4096) 3 in
     rw (op, f3, mask_f7 w h)
-    (same_test (eqb (w / 33554432 * 33554432 + (w / 4096 % 8 * 4096 + w % 128)) m) (eqb (w % 128) (m % 128) && (eqb (w / 4096 % 8) (m / 4096 % 8) && eqb (w / 33554432) (m / 33554432)))
+    (same_test (eqb (w / 33554432 * 33554432 + (w / 4096 % 8 * 4096 + w % 128)) m)
+    (eqb (w % 128) (m % 128) && (eqb (w / 4096 % 8) (m / 4096 % 8) && eqb (w / 33554432) (m / 33554432)))
     (λ e. let e' = eqb-true _ _ e in
     and_from _ _ (eq-eqb (w % 128) (m % 128) (omega (arith, e')))
-    (and_from _ _ (eq-eqb (w / 4096 % 8) (m / 4096 % 8) (omega (arith, e'))) (eq-eqb (w / 33554432) (m / 33554432) (omega (arith, e')))))
-    (λ e. let p = and_parts (eqb (w % 128) (m % 128)) (eqb (w / 4096 % 8) (m / 4096 % 8) && eqb (w / 33554432) (m / 33554432)) e in
+    (and_from _ _ (eq-eqb (w / 4096 % 8) (m / 4096 % 8) (omega (arith, e')))
+    (eq-eqb (w / 33554432) (m / 33554432) (omega (arith, e')))))
+    (λ e. let p = and_parts (eqb (w % 128) (m % 128))
+    (eqb (w / 4096 % 8) (m / 4096 % 8) && eqb (w / 33554432) (m / 33554432)) e in
     let q = and_parts (eqb (w / 4096 % 8) (m / 4096 % 8)) (eqb (w / 33554432) (m / 33554432)) p.1 in
-    eq-eqb _ _ (omega (arith, eqb-true (w % 128) (m % 128) p.0, eqb-true (w / 4096 % 8) (m / 4096 % 8) q.0, eqb-true (w / 33554432) (m / 33554432) q.1))))
+    eq-eqb _ _ (omega (
+      arith,
+      eqb-true (w % 128) (m % 128) p.0,
+      eqb-true (w / 4096 % 8) (m / 4096 % 8) q.0,
+      eqb-true (w / 33554432) (m / 33554432) q.1,
+    ))))
 
 test_all : (w m : ℕ) → w < 2 ^ 32 → eqb (bit_and w 0xffffffff) m ≡ (eqb (bit_and w 127) (m % 128) && eqb w m)
 test_all w m h =
@@ -68,34 +84,42 @@ test_all w m h =
 
 -- ---- the whole table
 
+-- a row's test by the opcode, funct3, funct7 and the whole word, as its mask asks
 abbrev pub field_test : ℕ → ℕ → ℕ → ℕ → ℕ → ℕ → Bool
 field_test op f3 f7 w mask matches =
     cond (eqb mask 0x7f) (eqb op matches)
     (cond (eqb mask 0x707f) (eqb op (matches % 128) && eqb f3 (matches / 4096 % 8))
-    (cond (eqb mask 0xfe00707f) (eqb op (matches % 128) && (eqb f3 (matches / 4096 % 8) && eqb f7 (matches / 33554432)))
+    (cond (eqb mask 0xfe00707f) (eqb op (matches % 128)
+    && (eqb f3 (matches / 4096 % 8) && eqb f7 (matches / 33554432)))
     (eqb op (matches % 128) && eqb w matches)))
 
+-- the first row of a table whose test by the fields holds
 abbrev pub first_field_fit : ℕ → ℕ → ℕ → ℕ → List (Row Insn) → Option Insn
 first_field_fit op f3 f7 w [] = None
-first_field_fit op f3 f7 w (r ∷ rs) = cond (field_test op f3 f7 w r.mask r.matches) (Some (r.gives w)) (first_field_fit op f3 f7 w rs)
+first_field_fit op f3 f7 w (r ∷ rs) =
+    cond (field_test op f3 f7 w r.mask r.matches) (Some (r.gives w)) (first_field_fit op f3 f7 w rs)
 
 -- the mask is one of the four, and the match within it
 good_mask : ℕ → ℕ → Bool
 good_mask mask matches =
     cond (eqb mask 0x7f) true
     (cond (eqb mask 0x707f) (eqb (matches / 32768) 0 && eqb (matches / 128 % 32) 0)
-    (cond (eqb mask 0xfe00707f) (eqb (matches / 4294967296) 0 && (eqb (matches / 32768 % 1024) 0 && eqb (matches / 128 % 32) 0))
+    (cond (eqb mask 0xfe00707f) (eqb (matches / 4294967296) 0
+    && (eqb (matches / 32768 % 1024) 0 && eqb (matches / 128 % 32) 0))
     (eqb mask 0xffffffff)))
 
+-- the row has no exceptions
 has_none : List (ℕ × ℕ) → Bool
 has_none [] = true
 has_none (e ∷ es) = false
 
+-- each row of a table has such a mask, and no exceptions
 all_good : List (Row Insn) → Bool
 unfolding good_mask has_none
 all_good [] = true
 all_good (r ∷ rs) = (has_none r.unless && good_mask r.mask r.matches) && all_good rs
 
+-- a row's test of the word is its test by the fields
 by_mask : (w : ℕ) → w < 2 ^ 32 → (mask m : ℕ) → good_mask mask m ≡ true
     → eqb (bit_and w mask) m ≡ field_test (bit_and w 127) (bit_and (w / 4096) 7) (w / 33554432) w mask m
 unfolding good_mask
@@ -112,34 +136,45 @@ by_mask w h mask m e =
               let e' = rw c at e in
               let p = and_parts (eqb (m / 4294967296) 0) (eqb (m / 32768 % 1024) 0 && eqb (m / 128 % 32) 0) e' in
               let q = and_parts (eqb (m / 32768 % 1024) 0) (eqb (m / 128 % 32) 0) p.1 in
-              rw c (test_f7 w m h (omega (arith, eqb-true (m / 4294967296) 0 p.0)) (eqb-true _ _ q.0) (eqb-true _ _ q.1))
+              rw c (test_f7 w m h (omega (arith, eqb-true (m / 4294967296) 0 p.0)) (eqb-true _ _ q.0)
+              (eqb-true _ _ q.1))
           | inr c ↦
               let e' = rw (ne_eqb mask 0x7f a, ne_eqb mask 0x707f b, ne_eqb mask 0xfe00707f c) at e in
-              rw (ne_eqb mask 0x7f a, ne_eqb mask 0x707f b, ne_eqb mask 0xfe00707f c, eqb-true mask 0xffffffff e') (test_all w m h)
+              rw (ne_eqb mask 0x7f a, ne_eqb mask 0x707f b, ne_eqb mask 0xfe00707f c, eqb-true mask 0xffffffff e')
+              (test_all w m h)
         ]
       ]
     ]
 
+-- an empty list of exceptions takes nothing away
 without : (w : ℕ) (b : Bool) (es : List (ℕ × ℕ)) → has_none es ≡ true → (b && none_holds w es) ≡ b
 unfolding has_none
 without w true [] e = refl
 without w false [] e = refl
 without w b (x ∷ es) e = absurd (both_ways false refl e)
 
-by_fields : (w : ℕ) → w < 2 ^ 32 → (rs : List (Row Insn)) → all_good rs ≡ true → first_fit w rs ≡ first_field_fit (bit_and w 127) (bit_and (w / 4096) 7) (w / 33554432) w rs
+-- so the first row that fits is the first by the fields, in a part of a table and in the whole
+by_fields : (w : ℕ) → w < 2 ^ 32 → (rs : List (Row Insn)) → all_good rs ≡ true
+    → first_fit w rs ≡ first_field_fit (bit_and w 127) (bit_and (w / 4096) 7) (w / 33554432) w rs
 unfolding all_good
 by_fields w h [] e = refl
 by_fields w h (r ∷ rs) e =
     let p = and_parts (has_none r.unless && good_mask r.mask r.matches) (all_good rs) e in
     let q = and_parts (has_none r.unless) (good_mask r.mask r.matches) p.0 in
-    rw (without w (eqb (bit_and w r.mask) r.matches) r.unless q.0, by_mask w h r.mask r.matches q.1, by_fields w h rs p.1) refl
+    rw (
+      without w (eqb (bit_and w r.mask) r.matches) r.unless q.0,
+      by_mask w h r.mask r.matches q.1,
+      by_fields w h rs p.1,
+    ) refl
 
-pub decode_fields : (w : ℕ) → w < 2 ^ 32 → decode_of w ≡ first_field_fit (bit_and w 127) (bit_and (w / 4096) 7) (w / 33554432) w rows
+pub decode_fields : (w : ℕ) → w < 2 ^ 32
+    → decode_of w ≡ first_field_fit (bit_and w 127) (bit_and (w / 4096) 7) (w / 33554432) w rows
 unfolding decode_of all_good good_mask has_none
 decode_fields w h = by_fields w h rows refl
 
 -- ---- by the lowest seven bits
 
+-- the rows that are left once the opcode is known; under another opcode than these there is none
 pub lui_rows : (w : ℕ) → w < 2 ^ 32 → bit_and w 127 ≡ 55 → decode_of w ≡ Some (Lui (rd w) (imm_u w))
 lui_rows w h e = decode_fields w h ∙ rw e refl
 
@@ -236,8 +271,9 @@ pub system_rows : (w : ℕ) → w < 2 ^ 32 → bit_and w 127 ≡ 115 → decode_
 system_rows w h e = decode_fields w h ∙ rw e refl
 
 pub no_rows : (w : ℕ) → w < 2 ^ 32
-    → bit_and w 127 ≢ 55 → bit_and w 127 ≢ 23 → bit_and w 127 ≢ 111 → bit_and w 127 ≢ 103 → bit_and w 127 ≢ 99 → bit_and w 127 ≢ 3
-    → bit_and w 127 ≢ 35 → bit_and w 127 ≢ 19 → bit_and w 127 ≢ 51 → bit_and w 127 ≢ 15 → bit_and w 127 ≢ 115 → decode_of w ≡ None
+    → bit_and w 127 ≢ 55 → bit_and w 127 ≢ 23 → bit_and w 127 ≢ 111 → bit_and w 127 ≢ 103 → bit_and w 127 ≢ 99
+    → bit_and w 127 ≢ 3 → bit_and w 127 ≢ 35 → bit_and w 127 ≢ 19 → bit_and w 127 ≢ 51 → bit_and w 127 ≢ 15
+    → bit_and w 127 ≢ 115 → decode_of w ≡ None
 no_rows w h n55 n23 n111 n103 n99 n3 n35 n19 n51 n15 n115 =
     decode_fields w h ∙ rw (
       ne_eqb (bit_and w 127) 55 n55,

@@ -1,5 +1,6 @@
 -- The expansion of a compressed instruction is an instruction.
-use Rattle.std.proofs.Common.{◌≡◌, ℕ, ◌+◌, ◌*◌, ◌/◌, ◌%◌, ◌^◌, ◌<◌, Option, None, Some, refl, sym, ap, subst, ◌∙◌, arith, inl, inr, lit<}
+use Rattle.std.proofs.Common.{◌≡◌, ℕ, ◌+◌, ◌*◌, ◌/◌, ◌%◌, ◌^◌, ◌<◌, Option, None, Some, refl, sym, ap, subst, ◌∙◌}
+use Rattle.std.proofs.Common.{arith, inl, inr, lit<}
 use Rattle.std.specs.Prelude.{bit_and, IfSome, IsSome, IsTrue, OnSome}
 use Rattle.std.proofs.lemmas.Bool.{cases_eq, ne_eqb}
 use Rattle.std.specs.Int.Bits.{and_mask}
@@ -8,17 +9,23 @@ use Rattle.ibx_bits.specs.Bytes.{bits_at}
 use Rattle.ibx_decoder.specs.Table.{IsRow}
 use Rattle.ibx_decoder.specs.Rows as Words
 use Rattle.ibx_decoder.specs.Rows.{decode_of, IsInstruction}
-use Rattle.ibx_decoder.specs.Compressed.{add, addi, and, andi, beq, bne, ebreak, jal, jalr, lui, lw, or, slli, srai, srli, sub, sw, xor, i_word, s_word, b_word, wide_rd, wide_rs2, high_reg, low_reg, imm_addi4spn, imm_lw, imm_lwsp, imm_swsp, imm_six, imm_lui, imm_addi16sp, imm_jump, imm_branch, rows, expand_of, is_short_of}
+use Rattle.ibx_decoder.specs.Compressed.{add, addi, and, andi, beq, bne, ebreak, jal, jalr, lui, lw, or, slli, srai}
+use Rattle.ibx_decoder.specs.Compressed.{srli, sub, sw, xor, i_word, s_word, b_word, wide_rd, wide_rs2, high_reg}
+use Rattle.ibx_decoder.specs.Compressed.{low_reg, imm_addi4spn, imm_lw, imm_lwsp, imm_swsp, imm_six, imm_lui}
+use Rattle.ibx_decoder.specs.Compressed.{imm_addi16sp, imm_jump, imm_branch, rows, expand_of, is_short_of}
 use Rattle.ibx_decoder.proofs.ByNumber.{no_short}
 use Rattle.ibx_decoder.proofs.ByFields.{first_field_fit, decode_fields}
-use Rattle.ibx_decoder.proofs.OneRow.{AllGive, given, one_row, all_apart, apart, apart_pair, excepted}
+use Rattle.ibx_decoder.proofs.OneRow.{◌▸◌, AllGive, given, one_row, all_apart, apart, apart_pair, excepted}
 
+-- at most one row fits a halfword, and its word is the expansion
 pub expand_of-row : (h : ℕ) → IsRow h rows (expand_of h)
 unfolding expand_of all_apart apart apart_pair excepted
 expand_of-row h = one_row h rows refl
 
 -- ---- a word of known fields
 
+-- a word is an instruction where a row fits its opcode, funct3 and funct7: for a word of the forms I and R, S, and B
+-- those are the parts that it was put together from
 decode_at : (w op f3 f7 : ℕ) → w < 2 ^ 32 → w % 128 ≡ op → w / 4096 % 8 ≡ f3 → w / 33554432 ≡ f7
     → IsSome (first_field_fit op f3 f7 w Words.rows) → IsInstruction w
 decode_at w op f3 f7 h a b c found =
@@ -36,24 +43,31 @@ i_fits imm rs1 f3 rd op f7 h1 h2 h3 h4 h5 h6 found =
     decode_at (i_word imm rs1 f3 rd op) op f3 f7 (omega arith) (omega arith) (omega arith) (omega arith) found
 
 s_fits : (imm rs2 rs1 f3 op : ℕ) → imm < 2 ^ 12 → rs2 < 32 → rs1 < 32 → f3 < 8 → op < 128
-    → IsSome (first_field_fit op f3 (s_word imm rs2 rs1 f3 op / 33554432) (s_word imm rs2 rs1 f3 op) Words.rows) → IsInstruction (s_word imm rs2 rs1 f3 op)
+    → IsSome (first_field_fit op f3 (s_word imm rs2 rs1 f3 op / 33554432) (s_word imm rs2 rs1 f3 op) Words.rows)
+    → IsInstruction (s_word imm rs2 rs1 f3 op)
 s_fits imm rs2 rs1 f3 op h1 h2 h3 h4 h5 found =
-    decode_at (s_word imm rs2 rs1 f3 op) op f3 (s_word imm rs2 rs1 f3 op / 33554432) (omega arith) (omega arith) (omega arith) refl found
+    decode_at (s_word imm rs2 rs1 f3 op) op f3 (s_word imm rs2 rs1 f3 op / 33554432) (omega arith) (omega arith)
+    (omega arith) refl found
 
 b_fits : (imm rs2 rs1 f3 op : ℕ) → imm < 2 ^ 13 → rs2 < 32 → rs1 < 32 → f3 < 8 → op < 128
-    → IsSome (first_field_fit op f3 (b_word imm rs2 rs1 f3 op / 33554432) (b_word imm rs2 rs1 f3 op) Words.rows) → IsInstruction (b_word imm rs2 rs1 f3 op)
+    → IsSome (first_field_fit op f3 (b_word imm rs2 rs1 f3 op / 33554432) (b_word imm rs2 rs1 f3 op) Words.rows)
+    → IsInstruction (b_word imm rs2 rs1 f3 op)
 b_fits imm rs2 rs1 f3 op h1 h2 h3 h4 h5 found =
-    decode_at (b_word imm rs2 rs1 f3 op) op f3 (b_word imm rs2 rs1 f3 op / 33554432) (omega arith) (omega arith) (omega arith) refl found
+    decode_at (b_word imm rs2 rs1 f3 op) op f3 (b_word imm rs2 rs1 f3 op / 33554432) (omega arith) (omega arith)
+    (omega arith) refl found
 
 -- ---- each instruction of an expansion
 
+-- registers and immediates in their ranges make an instruction
 lui_fits : (rd upper : ℕ) → rd < 32 → upper < 2 ^ 20 → IsInstruction (lui rd upper)
 lui_fits rd upper h1 h2 =
-    decode_at (lui rd upper) 0x37 (lui rd upper / 4096 % 8) (lui rd upper / 33554432) (omega arith) (omega arith) refl refl refl
+    decode_at (lui rd upper) 0x37 (lui rd upper / 4096 % 8) (lui rd upper / 33554432) (omega arith) (omega arith) refl
+    refl refl
 
 jal_fits : (rd imm : ℕ) → rd < 32 → imm < 2 ^ 21 → IsInstruction (jal rd imm)
 jal_fits rd imm h1 h2 =
-    decode_at (jal rd imm) 0x6f (jal rd imm / 4096 % 8) (jal rd imm / 33554432) (omega arith) (omega arith) refl refl refl
+    decode_at (jal rd imm) 0x6f (jal rd imm / 4096 % 8) (jal rd imm / 33554432) (omega arith) (omega arith) refl refl
+    refl
 
 jalr_fits : (rd rs1 : ℕ) → rd < 32 → rs1 < 32 → IsInstruction (jalr rd rs1)
 jalr_fits rd rs1 h1 h2 = i_fits 0 rs1 0 rd 0x67 0 (lit< tt) h2 (lit< tt) h1 (lit< tt) refl refl
@@ -80,32 +94,42 @@ addi_fits rd rs1 imm h1 h2 h3 = i_fits imm rs1 0 rd 0x13 (imm / 32) h3 h2 (lit< 
 andi_fits : (rd rs1 imm : ℕ) → rd < 32 → rs1 < 32 → imm < 2 ^ 12 → IsInstruction (andi rd rs1 imm)
 andi_fits rd rs1 imm h1 h2 h3 = i_fits imm rs1 7 rd 0x13 (imm / 32) h3 h2 (lit< tt) h1 (lit< tt) refl refl
 
+-- shifts by an amount, and computations with a register
 slli_fits : (rd rs1 rs2 : ℕ) → rd < 32 → rs1 < 32 → rs2 < 32 → IsInstruction (slli rd rs1 rs2)
-slli_fits rd rs1 rs2 h1 h2 h3 = i_fits (0 * 2 ^ 5 + rs2) rs1 1 rd 0x13 0 (omega arith) h2 (lit< tt) h1 (lit< tt) (omega arith) refl
+slli_fits rd rs1 rs2 h1 h2 h3 =
+    i_fits (0 * 2 ^ 5 + rs2) rs1 1 rd 0x13 0 (omega arith) h2 (lit< tt) h1 (lit< tt) (omega arith) refl
 
 srli_fits : (rd rs1 rs2 : ℕ) → rd < 32 → rs1 < 32 → rs2 < 32 → IsInstruction (srli rd rs1 rs2)
-srli_fits rd rs1 rs2 h1 h2 h3 = i_fits (0 * 2 ^ 5 + rs2) rs1 5 rd 0x13 0 (omega arith) h2 (lit< tt) h1 (lit< tt) (omega arith) refl
+srli_fits rd rs1 rs2 h1 h2 h3 =
+    i_fits (0 * 2 ^ 5 + rs2) rs1 5 rd 0x13 0 (omega arith) h2 (lit< tt) h1 (lit< tt) (omega arith) refl
 
 srai_fits : (rd rs1 rs2 : ℕ) → rd < 32 → rs1 < 32 → rs2 < 32 → IsInstruction (srai rd rs1 rs2)
-srai_fits rd rs1 rs2 h1 h2 h3 = i_fits (32 * 2 ^ 5 + rs2) rs1 5 rd 0x13 32 (omega arith) h2 (lit< tt) h1 (lit< tt) (omega arith) refl
+srai_fits rd rs1 rs2 h1 h2 h3 =
+    i_fits (32 * 2 ^ 5 + rs2) rs1 5 rd 0x13 32 (omega arith) h2 (lit< tt) h1 (lit< tt) (omega arith) refl
 
 add_fits : (rd rs1 rs2 : ℕ) → rd < 32 → rs1 < 32 → rs2 < 32 → IsInstruction (add rd rs1 rs2)
-add_fits rd rs1 rs2 h1 h2 h3 = i_fits (0 * 2 ^ 5 + rs2) rs1 0 rd 0x33 0 (omega arith) h2 (lit< tt) h1 (lit< tt) (omega arith) refl
+add_fits rd rs1 rs2 h1 h2 h3 =
+    i_fits (0 * 2 ^ 5 + rs2) rs1 0 rd 0x33 0 (omega arith) h2 (lit< tt) h1 (lit< tt) (omega arith) refl
 
 sub_fits : (rd rs1 rs2 : ℕ) → rd < 32 → rs1 < 32 → rs2 < 32 → IsInstruction (sub rd rs1 rs2)
-sub_fits rd rs1 rs2 h1 h2 h3 = i_fits (32 * 2 ^ 5 + rs2) rs1 0 rd 0x33 32 (omega arith) h2 (lit< tt) h1 (lit< tt) (omega arith) refl
+sub_fits rd rs1 rs2 h1 h2 h3 =
+    i_fits (32 * 2 ^ 5 + rs2) rs1 0 rd 0x33 32 (omega arith) h2 (lit< tt) h1 (lit< tt) (omega arith) refl
 
 xor_fits : (rd rs1 rs2 : ℕ) → rd < 32 → rs1 < 32 → rs2 < 32 → IsInstruction (xor rd rs1 rs2)
-xor_fits rd rs1 rs2 h1 h2 h3 = i_fits (0 * 2 ^ 5 + rs2) rs1 4 rd 0x33 0 (omega arith) h2 (lit< tt) h1 (lit< tt) (omega arith) refl
+xor_fits rd rs1 rs2 h1 h2 h3 =
+    i_fits (0 * 2 ^ 5 + rs2) rs1 4 rd 0x33 0 (omega arith) h2 (lit< tt) h1 (lit< tt) (omega arith) refl
 
 or_fits : (rd rs1 rs2 : ℕ) → rd < 32 → rs1 < 32 → rs2 < 32 → IsInstruction (or rd rs1 rs2)
-or_fits rd rs1 rs2 h1 h2 h3 = i_fits (0 * 2 ^ 5 + rs2) rs1 6 rd 0x33 0 (omega arith) h2 (lit< tt) h1 (lit< tt) (omega arith) refl
+or_fits rd rs1 rs2 h1 h2 h3 =
+    i_fits (0 * 2 ^ 5 + rs2) rs1 6 rd 0x33 0 (omega arith) h2 (lit< tt) h1 (lit< tt) (omega arith) refl
 
 and_fits : (rd rs1 rs2 : ℕ) → rd < 32 → rs1 < 32 → rs2 < 32 → IsInstruction (and rd rs1 rs2)
-and_fits rd rs1 rs2 h1 h2 h3 = i_fits (0 * 2 ^ 5 + rs2) rs1 7 rd 0x33 0 (omega arith) h2 (lit< tt) h1 (lit< tt) (omega arith) refl
+and_fits rd rs1 rs2 h1 h2 h3 =
+    i_fits (0 * 2 ^ 5 + rs2) rs1 7 rd 0x33 0 (omega arith) h2 (lit< tt) h1 (lit< tt) (omega arith) refl
 
 -- ---- the fields of a halfword are in their ranges
 
+-- registers are below 32, and so are amounts
 low_reg-lt : (h : ℕ) → low_reg h < 32
 low_reg-lt h = omega arith
 
@@ -121,6 +145,7 @@ wide_rs2-lt h = omega arith
 amount-lt : (h : ℕ) → bits_at h 2 5 < 32
 amount-lt h = omega arith
 
+-- immediates have as many bits as their form takes
 imm_addi4spn-lt : (h : ℕ) → imm_addi4spn h < 2 ^ 12
 imm_addi4spn-lt h = omega arith
 
@@ -148,83 +173,40 @@ imm_jump-lt h = omega arith
 imm_branch-lt : (h : ℕ) → imm_branch h < 2 ^ 13
 imm_branch-lt h = omega arith
 
+-- so each row's word is an instruction, and each expansion
 all_fit : (h : ℕ) → AllGive h IsInstruction rows
-all_fit h = (
-  λ _. addi_fits (low_reg h) 2 (imm_addi4spn h) (low_reg-lt h) (lit< tt) (imm_addi4spn-lt h),
-  (
-    λ _. lw_fits (low_reg h) (high_reg h) (imm_lw h) (low_reg-lt h) (high_reg-lt h) (imm_lw-lt h),
-    (
-      λ _. sw_fits (low_reg h) (high_reg h) (imm_lw h) (low_reg-lt h) (high_reg-lt h) (imm_lw-lt h),
-      (
-        λ _. addi_fits (wide_rd h) (wide_rd h) (imm_six h) (wide_rd-lt h) (wide_rd-lt h) (imm_six-lt h),
-        (
-          λ _. jal_fits 1 (imm_jump h) (lit< tt) (imm_jump-lt h),
-          (
-            λ _. addi_fits (wide_rd h) 0 (imm_six h) (wide_rd-lt h) (lit< tt) (imm_six-lt h),
-            (
-              λ _. addi_fits 2 2 (imm_addi16sp h) (lit< tt) (lit< tt) (imm_addi16sp-lt h),
-              (
-                λ _. lui_fits (wide_rd h) (imm_lui h) (wide_rd-lt h) (imm_lui-lt h),
-                (
-                  λ _. srli_fits (high_reg h) (high_reg h) (bits_at h 2 5) (high_reg-lt h) (high_reg-lt h) (amount-lt h),
-                  (
-                    λ _. srai_fits (high_reg h) (high_reg h) (bits_at h 2 5) (high_reg-lt h) (high_reg-lt h) (amount-lt h),
-                    (
-                      λ _. andi_fits (high_reg h) (high_reg h) (imm_six h) (high_reg-lt h) (high_reg-lt h) (imm_six-lt h),
-                      (
-                        λ _. sub_fits (high_reg h) (high_reg h) (low_reg h) (high_reg-lt h) (high_reg-lt h) (low_reg-lt h),
-                        (
-                          λ _. xor_fits (high_reg h) (high_reg h) (low_reg h) (high_reg-lt h) (high_reg-lt h) (low_reg-lt h),
-                          (
-                            λ _. or_fits (high_reg h) (high_reg h) (low_reg h) (high_reg-lt h) (high_reg-lt h) (low_reg-lt h),
-                            (
-                              λ _. and_fits (high_reg h) (high_reg h) (low_reg h) (high_reg-lt h) (high_reg-lt h) (low_reg-lt h),
-                              (
-                                λ _. jal_fits 0 (imm_jump h) (lit< tt) (imm_jump-lt h),
-                                (
-                                  λ _. beq_fits (high_reg h) 0 (imm_branch h) (high_reg-lt h) (lit< tt) (imm_branch-lt h),
-                                  (
-                                    λ _. bne_fits (high_reg h) 0 (imm_branch h) (high_reg-lt h) (lit< tt) (imm_branch-lt h),
-                                    (
-                                      λ _. slli_fits (wide_rd h) (wide_rd h) (bits_at h 2 5) (wide_rd-lt h) (wide_rd-lt h) (amount-lt h),
-                                      (
-                                        λ _. lw_fits (wide_rd h) 2 (imm_lwsp h) (wide_rd-lt h) (lit< tt) (imm_lwsp-lt h),
-                                        (
-                                          λ _. jalr_fits 0 (wide_rd h) (lit< tt) (wide_rd-lt h),
-                                          (
-                                            λ _. add_fits (wide_rd h) 0 (wide_rs2 h) (wide_rd-lt h) (lit< tt) (wide_rs2-lt h),
-                                            (
-                                              λ _. ebreak_fits,
-                                              (
-                                                λ _. jalr_fits 1 (wide_rd h) (lit< tt) (wide_rd-lt h),
-                                                (
-                                                  λ _. add_fits (wide_rd h) (wide_rd h) (wide_rs2 h) (wide_rd-lt h) (wide_rd-lt h) (wide_rs2-lt h),
-                                                  (λ _. sw_fits (wide_rs2 h) 2 (imm_swsp h) (wide_rs2-lt h) (lit< tt) (imm_swsp-lt h), tt),
-                                                ),
-                                              ),
-                                            ),
-                                          ),
-                                        ),
-                                      ),
-                                    ),
-                                  ),
-                                ),
-                              ),
-                            ),
-                          ),
-                        ),
-                      ),
-                    ),
-                  ),
-                ),
-              ),
-            ),
-          ),
-        ),
-      ),
-    ),
-  ),
-)
+all_fit h =
+    -- C.ADDI4SPN, C.LW, C.SW
+    (λ _. addi_fits (low_reg h) 2 (imm_addi4spn h) (low_reg-lt h) (lit< tt) (imm_addi4spn-lt h)) ▸
+    (λ _. lw_fits (low_reg h) (high_reg h) (imm_lw h) (low_reg-lt h) (high_reg-lt h) (imm_lw-lt h)) ▸
+    (λ _. sw_fits (low_reg h) (high_reg h) (imm_lw h) (low_reg-lt h) (high_reg-lt h) (imm_lw-lt h)) ▸
+    -- C.ADDI, C.JAL, C.LI, C.ADDI16SP, C.LUI
+    (λ _. addi_fits (wide_rd h) (wide_rd h) (imm_six h) (wide_rd-lt h) (wide_rd-lt h) (imm_six-lt h)) ▸
+    (λ _. jal_fits 1 (imm_jump h) (lit< tt) (imm_jump-lt h)) ▸
+    (λ _. addi_fits (wide_rd h) 0 (imm_six h) (wide_rd-lt h) (lit< tt) (imm_six-lt h)) ▸
+    (λ _. addi_fits 2 2 (imm_addi16sp h) (lit< tt) (lit< tt) (imm_addi16sp-lt h)) ▸
+    (λ _. lui_fits (wide_rd h) (imm_lui h) (wide_rd-lt h) (imm_lui-lt h)) ▸
+    -- C.SRLI, C.SRAI, C.ANDI, C.SUB, C.XOR, C.OR, C.AND
+    (λ _. srli_fits (high_reg h) (high_reg h) (bits_at h 2 5) (high_reg-lt h) (high_reg-lt h) (amount-lt h)) ▸
+    (λ _. srai_fits (high_reg h) (high_reg h) (bits_at h 2 5) (high_reg-lt h) (high_reg-lt h) (amount-lt h)) ▸
+    (λ _. andi_fits (high_reg h) (high_reg h) (imm_six h) (high_reg-lt h) (high_reg-lt h) (imm_six-lt h)) ▸
+    (λ _. sub_fits (high_reg h) (high_reg h) (low_reg h) (high_reg-lt h) (high_reg-lt h) (low_reg-lt h)) ▸
+    (λ _. xor_fits (high_reg h) (high_reg h) (low_reg h) (high_reg-lt h) (high_reg-lt h) (low_reg-lt h)) ▸
+    (λ _. or_fits (high_reg h) (high_reg h) (low_reg h) (high_reg-lt h) (high_reg-lt h) (low_reg-lt h)) ▸
+    (λ _. and_fits (high_reg h) (high_reg h) (low_reg h) (high_reg-lt h) (high_reg-lt h) (low_reg-lt h)) ▸
+    -- C.J, C.BEQZ, C.BNEZ
+    (λ _. jal_fits 0 (imm_jump h) (lit< tt) (imm_jump-lt h)) ▸
+    (λ _. beq_fits (high_reg h) 0 (imm_branch h) (high_reg-lt h) (lit< tt) (imm_branch-lt h)) ▸
+    (λ _. bne_fits (high_reg h) 0 (imm_branch h) (high_reg-lt h) (lit< tt) (imm_branch-lt h)) ▸
+    -- C.SLLI, C.LWSP, C.JR, C.MV, C.EBREAK, C.JALR, C.ADD, C.SWSP
+    (λ _. slli_fits (wide_rd h) (wide_rd h) (bits_at h 2 5) (wide_rd-lt h) (wide_rd-lt h) (amount-lt h)) ▸
+    (λ _. lw_fits (wide_rd h) 2 (imm_lwsp h) (wide_rd-lt h) (lit< tt) (imm_lwsp-lt h)) ▸
+    (λ _. jalr_fits 0 (wide_rd h) (lit< tt) (wide_rd-lt h)) ▸
+    (λ _. add_fits (wide_rd h) 0 (wide_rs2 h) (wide_rd-lt h) (lit< tt) (wide_rs2-lt h)) ▸
+    (λ _. ebreak_fits) ▸
+    (λ _. jalr_fits 1 (wide_rd h) (lit< tt) (wide_rd-lt h)) ▸
+    (λ _. add_fits (wide_rd h) (wide_rd h) (wide_rs2 h) (wide_rd-lt h) (wide_rd-lt h) (wide_rs2-lt h)) ▸
+    (λ _. sw_fits (wide_rs2 h) 2 (imm_swsp h) (wide_rs2-lt h) (lit< tt) (imm_swsp-lt h)) ▸ tt
 
 pub expand_of-fits : (h : ℕ) → IfSome (expand_of h) IsInstruction
 unfolding expand_of
@@ -232,10 +214,12 @@ expand_of-fits h = given h IsInstruction rows (all_fit h)
 
 -- ---- only a short halfword is expanded
 
+-- what holds anyway holds of an answer
 of_any : (o : Option ℕ) (P : Type 0) → P → OnSome o P
 of_any None P p = tt
 of_any (Some word) P p = p
 
+-- each row's quadrant is another than 3
 pub expand_of-short : (h : ℕ) → h < 2 ^ 16 → OnSome (expand_of h) (IsTrue (is_short_of h))
 expand_of-short h hh = elim (cases_eq (h % 4) 3) [
   | inl e ↦ rw (no_short h hh e) tt

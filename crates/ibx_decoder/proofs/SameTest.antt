@@ -1,6 +1,7 @@
 -- Two tests that hold together are the same.
 use Rattle.std.proofs.Common.{◌≡◌, Bool, true, false, refl, sym}
 
+-- each implies the other, so they have one value
 pub same_test : (a b : Bool) → (a ≡ true → b ≡ true) → (b ≡ true → a ≡ true) → a ≡ b
 same_test true true to from = refl
 same_test true false to from = sym (to refl)

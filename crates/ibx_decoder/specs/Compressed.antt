@@ -7,31 +7,39 @@ use Rattle.ibx_isa.specs.Lengths.{is_long}
 
 -- ---- words of the forms I, S, B, U, J and R (2.2 and 2.3); a negative immediate is in two's complement
 
+-- bits 31:20 are imm[11:0]
 abbrev pub i_word : ℕ → ℕ → ℕ → ℕ → ℕ → ℕ
 i_word imm rs1 funct3 rd opcode = imm * 2 ^ 20 + rs1 * 2 ^ 15 + funct3 * 2 ^ 12 + rd * 2 ^ 7 + opcode
 
+-- bits 31:25 are imm[11:5], and bits 11:7 imm[4:0]
 abbrev pub s_word : ℕ → ℕ → ℕ → ℕ → ℕ → ℕ
 s_word imm rs2 rs1 funct3 opcode =
     imm / 2 ^ 5 * 2 ^ 25 + rs2 * 2 ^ 20 + rs1 * 2 ^ 15 + funct3 * 2 ^ 12 + imm % 2 ^ 5 * 2 ^ 7 + opcode
 
+-- bits 31:25 are imm[12|10:5], and bits 11:7 imm[4:1|11]
 abbrev pub b_word : ℕ → ℕ → ℕ → ℕ → ℕ → ℕ
 b_word imm rs2 rs1 funct3 opcode =
     imm / 2 ^ 12 * 2 ^ 31 + imm / 2 ^ 5 % 2 ^ 6 * 2 ^ 25 + rs2 * 2 ^ 20 + rs1 * 2 ^ 15 + funct3 * 2 ^ 12
     + imm / 2 % 2 ^ 4 * 2 ^ 8 + imm / 2 ^ 11 % 2 * 2 ^ 7 + opcode
 
+-- bits 31:12 are imm[31:12]
 abbrev pub u_word : ℕ → ℕ → ℕ → ℕ
 u_word upper rd opcode = upper * 2 ^ 12 + rd * 2 ^ 7 + opcode
 
+-- bits 31:12 are imm[20|10:1|11|19:12]
 abbrev pub j_word : ℕ → ℕ → ℕ → ℕ
 j_word imm rd opcode =
     imm / 2 ^ 20 * 2 ^ 31 + imm / 2 % 2 ^ 10 * 2 ^ 21 + imm / 2 ^ 11 % 2 * 2 ^ 20 + imm / 2 ^ 12 % 2 ^ 8 * 2 ^ 12
     + rd * 2 ^ 7 + opcode
 
+-- bits 31:25 are funct7
 abbrev pub r_word : ℕ → ℕ → ℕ → ℕ → ℕ → ℕ → ℕ
 r_word funct7 rs2 rs1 funct3 rd opcode = i_word (funct7 * 2 ^ 5 + rs2) rs1 funct3 rd opcode
 
 -- ---- the 32-bit instructions of the expansions
 
+-- by major opcode, funct3 and, where there is one, funct7 (24); a shift's amount stands where rs2 does, and the offset
+-- of JALR is 0
 abbrev pub lui : ℕ → ℕ → ℕ
 lui rd upper = u_word upper rd 0x37
 
@@ -53,6 +61,7 @@ lw rd rs1 imm = i_word imm rs1 2 rd 0x03
 abbrev pub sw : ℕ → ℕ → ℕ → ℕ
 sw rs2 rs1 imm = s_word imm rs2 rs1 2 0x23
 
+-- the integer computations, with an immediate, by an amount and with a register
 abbrev pub addi : ℕ → ℕ → ℕ → ℕ
 addi rd rs1 imm = i_word imm rs1 0 rd 0x13
 
@@ -83,6 +92,7 @@ or rd rs1 rs2 = r_word 0 rs2 rs1 6 rd 0x33
 abbrev pub and : ℕ → ℕ → ℕ → ℕ
 and rd rs1 rs2 = r_word 0 rs2 rs1 7 rd 0x33
 
+-- a word of its own (2.8)
 abbrev pub ebreak : ℕ
 ebreak = 0x00100073
 
@@ -132,24 +142,29 @@ imm_lui h = sign_part (bits_at h 12 1) 6 20 + bits_at h 2 5
 -- of C.ADDI16SP: nzimm[9] in bit 12, nzimm[4|6|8:7|5] in bits 6:2, as 12 bits
 abbrev pub imm_addi16sp : ℕ → ℕ
 imm_addi16sp h =
-    sign_part (bits_at h 12 1) 10 12 + bits_at h 3 2 * 2 ^ 7 + bits_at h 5 1 * 2 ^ 6 + bits_at h 2 1 * 2 ^ 5 + bits_at h 6 1 * 2 ^ 4
+    sign_part (bits_at h 12 1) 10 12 + bits_at h 3 2 * 2 ^ 7 + bits_at h 5 1 * 2 ^ 6 + bits_at h 2 1 * 2 ^ 5
+    + bits_at h 6 1 * 2 ^ 4
 
 -- of C.JAL and C.J: imm[11|4|9:8|10|6|7|3:1|5] in bits 12:2, as 21 bits
 abbrev pub imm_jump : ℕ → ℕ
 imm_jump h =
-    sign_part (bits_at h 12 1) 12 21 + bits_at h 8 1 * 2 ^ 10 + bits_at h 9 2 * 2 ^ 8 + bits_at h 6 1 * 2 ^ 7 + bits_at h 7 1 * 2 ^ 6
+    sign_part (bits_at h 12 1) 12 21 + bits_at h 8 1 * 2 ^ 10 + bits_at h 9 2 * 2 ^ 8 + bits_at h 6 1 * 2 ^ 7
+    + bits_at h 7 1 * 2 ^ 6
     + bits_at h 2 1 * 2 ^ 5 + bits_at h 11 1 * 2 ^ 4 + bits_at h 3 3 * 2
 
 -- of C.BEQZ and C.BNEZ: imm[8|4:3] in bits 12:10, imm[7:6|2:1|5] in bits 6:2, as 13 bits
 abbrev pub imm_branch : ℕ → ℕ
 imm_branch h =
-    sign_part (bits_at h 12 1) 9 13 + bits_at h 5 2 * 2 ^ 6 + bits_at h 2 1 * 2 ^ 5 + bits_at h 10 2 * 2 ^ 3 + bits_at h 3 2 * 2
+    sign_part (bits_at h 12 1) 9 13 + bits_at h 5 2 * 2 ^ 6 + bits_at h 2 1 * 2 ^ 5 + bits_at h 10 2 * 2 ^ 3
+    + bits_at h 3 2 * 2
 
 -- ---- rows, by the quadrant in bits 1:0 and the number in bits 15:13 (16.8); a hint is a row like any other
 
+-- a row gives a word by the halfword, unless an exception holds
 abbrev pub row : ℕ → ℕ → List (ℕ × ℕ) → (ℕ → ℕ) → Row ℕ
 row mask matches unless word = record { mask = mask; matches = matches; unless = unless; gives = word }
 
+-- the table, a line for each compressed instruction or group of them
 abbrev pub rows : List (Row ℕ)
 rows =
     -- C.ADDI4SPN, but for the immediate 0; C.LW, C.SW

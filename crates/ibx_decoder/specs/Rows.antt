@@ -2,7 +2,8 @@
 -- A word fits a row where its bits under the mask are the match.
 use Rattle.std.specs.Prelude.{ℕ, ◌+◌, ◌*◌, ◌/◌, ◌^◌, ◌<◌, IsSome, true, false, List, [], ◌∷◌, Option}
 use Rattle.ibx_isa.specs.declared.insn.Insn.{Insn}
-use Rattle.ibx_isa.specs.declared.insn.Insn.TheVariants.{Lui, Auipc, Jal, Jalr, Branch, Load, Store, AluImm, Alu, MulDiv, Csr, Fence, FenceI, Ecall, Ebreak, Mret, Wfi}
+use Rattle.ibx_isa.specs.declared.insn.Insn.TheVariants.{Lui, Auipc, Jal, Jalr, Branch, Load, Store, AluImm, Alu}
+use Rattle.ibx_isa.specs.declared.insn.Insn.TheVariants.{MulDiv, Csr, Fence, FenceI, Ecall, Ebreak, Mret, Wfi}
 use Rattle.ibx_isa.specs.declared.insn.BranchOp.TheVariants.{Eq, Ne, Lt, Ge, Ltu, Geu}
 use Rattle.ibx_isa.specs.declared.insn.LoadOp.TheVariants.{Lb, Lh, Lw, Lbu, Lhu}
 use Rattle.ibx_isa.specs.declared.insn.AluOp.TheVariants.{Add, Sub, Sll, Slt, Sltu, Xor, Srl, Sra, Or, And}
@@ -37,7 +38,8 @@ abbrev pub imm_u : ℕ → ℕ
 imm_u w = w / 2 ^ 12 * 2 ^ 12
 
 abbrev pub imm_j : ℕ → ℕ
-imm_j w = sign_extended 21 (w / 2 ^ 31 * 2 ^ 20 + bits_at w 12 8 * 2 ^ 12 + bits_at w 20 1 * 2 ^ 11 + bits_at w 21 10 * 2)
+imm_j w =
+    sign_extended 21 (w / 2 ^ 31 * 2 ^ 20 + bits_at w 12 8 * 2 ^ 12 + bits_at w 20 1 * 2 ^ 11 + bits_at w 21 10 * 2)
 
 -- the amount of a shift by an immediate, and the address of a CSR
 abbrev pub shamt : ℕ → ℕ
@@ -48,9 +50,11 @@ csr w = w / 2 ^ 20
 
 -- ---- rows
 
+-- a row without exceptions, which gives an instruction by the word
 abbrev pub row : ℕ → ℕ → (ℕ → Insn) → Row Insn
 row mask matches insn = record { mask = mask; matches = matches; unless = []; gives = insn }
 
+-- the table, with the immediates sign-extended to 32 bits
 abbrev pub rows : List (Row Insn)
 rows =
     -- LUI, AUIPC, JAL, JALR

@@ -1,5 +1,6 @@
 -- Tables of instructions: rows that a word fits or not.
-use Rattle.std.specs.Prelude.{◌≡◌, ℕ, Bool, true, not, ◌&&◌, ◌==◌, bit_and, List, [], ◌∷◌, filter, Option, Some, None, if◌then◌else◌}
+use Rattle.std.specs.Prelude.{◌≡◌, ℕ, Bool, true, not, ◌&&◌, ◌==◌, bit_and, List, [], ◌∷◌, filter, Option, Some, None}
+use Rattle.std.specs.Prelude.{if◌then◌else◌}
 
 -- A row's mask and match; the exceptions, as masks and matches; and what the row gives for a word.
 pub record Row (A : Type 0) : Type 0 where

@@ -1,5 +1,6 @@
 -- When a dummy instruction is due, and which one it is. Our own rule.
-use Rattle.std.specs.Prelude.{ℕ, ◌+◌, ◌*◌, ◌/◌, ◌%◌, ◌^◌, Bool, ◌&&◌, ◌==◌, nat_le, if◌then◌else◌, bit_and, bit_xor, min}
+use Rattle.std.specs.Prelude.{ℕ, ◌+◌, ◌*◌, ◌/◌, ◌%◌, ◌^◌, Bool, ◌&&◌, ◌==◌, nat_le, if◌then◌else◌, bit_and, bit_xor}
+use Rattle.std.specs.Prelude.{min}
 use Rattle.ibx_dummy.specs.declared.unit.Dummy.{Dummy}
 
 -- a shift register with feedback, and the real instructions since the last dummy
@@ -34,6 +35,7 @@ seeded value d = record d { lfsr = if value == 0 then 0xace1ace1 else value }
 abbrev pub dummy_kind : ℕ → ℕ
 dummy_kind lfsr = lfsr / 2 ^ 15 % 4
 
+-- its funct7 and funct3 in their places: ADD, MUL, DIV or AND
 abbrev pub dummy_funct : ℕ → ℕ
 dummy_funct kind =
     if kind == 0 then 0 else
@@ -41,5 +43,6 @@ dummy_funct kind =
     if kind == 2 then 2 ^ 25 + 4 * 2 ^ 12 else
     7 * 2 ^ 12
 
+-- the word of the dummy that the register chooses
 unfoldable pub dummy_word : ℕ → ℕ
 dummy_word lfsr = dummy_funct (dummy_kind lfsr) + lfsr / 2 ^ 10 % 32 * 2 ^ 20 + lfsr / 2 ^ 5 % 32 * 2 ^ 15 + 0x33

@@ -1,22 +1,21 @@
 use crate::Dummy;
 
-// The register's first values, with the words of `and x0, x7, x11`, `mul x0, x19, x21` and `add x0, x25, x26` as an
-// assembler gives them.
+// The register's first values, with the words of these dummies as an assembler gives them.
 #[test]
 fn dummies_from_reset(rt: HostRuntime) {
     let rows = [
-        (0xace1_ace1, 0x00b3_f033),
-        (0xd650_d673, 0x0359_8033),
-        (0xeb08_6b3a, 0x01ac_8033),
+        ("and x0, x7, x11", 0xace1_ace1, 0x00b3_f033),
+        ("mul x0, x19, x21", 0xd650_d673, 0x0359_8033),
+        ("add x0, x25, x26", 0xeb08_6b3a, 0x01ac_8033),
     ];
     let mut unit = Dummy::reset();
-    for (lfsr, word) in rows {
-        assert_eq!(rt; unit.lfsr, lfsr);
-        assert_eq!(rt; unit.pick(), word);
+    for (name, lfsr, word) in rows {
+        assert_eq!(rt; unit.lfsr, lfsr, "at {name}");
+        assert_eq!(rt; unit.pick(), word, "at {name}");
         unit.inserted();
     }
     unit.seed(0x0001_0000);
-    assert_eq!(rt; unit.pick(), 0x0200_4033, "div x0, x0, x0");
+    assert_eq!(rt; unit.pick(), 0x0200_4033, "at div x0, x0, x0");
 }
 
 // The register, the mask, and the real instructions that a dummy waits for, by hand.

@@ -2,7 +2,8 @@
 use Rattle.std.proofs.Common.{◌≡◌, ℕ, Bool, true, false, ◌==◌, refl, ap, ◌<◌, lit<, if◌then◌else◌}
 use Rattle.std.proofs.lemmas.Bool.{eqb-true}
 use Rattle.ibx_icache.specs.declared.doing.Doing.{Doing}
-use Rattle.ibx_icache.specs.declared.doing.Doing.TheVariants.{Rests, Looks, AsksFirst, AwaitsFirst, AsksSecond, AwaitsSecond, Answers, AsksBare, AwaitsBare}
+use Rattle.ibx_icache.specs.declared.doing.Doing.TheVariants.{Rests, Looks, AsksFirst, AwaitsFirst, AsksSecond}
+use Rattle.ibx_icache.specs.declared.doing.Doing.TheVariants.{AwaitsSecond, Answers, AsksBare, AwaitsBare}
 use Rattle.ibx_icache.specs.Doing.{doing_of, granted_by, is_look, is_rest, state_of}
 
 -- the state of what is done
@@ -18,6 +19,7 @@ doing-state Answers = refl
 doing-state AsksBare = refl
 doing-state AwaitsBare = refl
 
+-- there are nine states
 pub state_low : (g : Doing) → state_of g < 9
 state_low Rests = lit< tt
 state_low Looks = lit< tt
@@ -29,6 +31,7 @@ state_low Answers = lit< tt
 state_low AsksBare = lit< tt
 state_low AwaitsBare = lit< tt
 
+-- what states 1, 6 and 5 do
 pub looks_at : (state : ℕ) → state ≡ 1 → doing_of state ≡ Looks
 unfolding doing_of
 looks_at state e = ap doing_of e
@@ -41,6 +44,7 @@ pub awaits_at : (state : ℕ) → state ≡ 5 → doing_of state ≡ AwaitsSecon
 unfolding doing_of
 awaits_at state e = ap doing_of e
 
+-- what is done by the tests for the states, one after another
 abbrev chosen : Bool → Bool → Bool → Bool → Bool → Bool → Bool → Bool → Doing
 chosen a b c d e f g h =
     if a then Looks else
@@ -53,6 +57,7 @@ chosen a b c d e f g h =
     if h then AwaitsBare else
     Rests
 
+-- only the first test leads to a lookup
 look_by : (a b c d e f g h : Bool) → is_look (chosen a b c d e f g h) ≡ a
 look_by true b c d e f g h = refl
 look_by false true c d e f g h = refl
@@ -69,6 +74,7 @@ pub is_look-doing : (state : ℕ) → is_look (doing_of state) ≡ (state == 1)
 unfolding doing_of
 is_look-doing s = look_by (s == 1) (s == 2) (s == 3) (s == 4) (s == 5) (s == 6) (s == 7) (s == 8)
 
+-- only the test for 5 leads to the second word's wait
 second_by : (a b c d e f g h : Bool) → chosen a b c d e f g h ≡ AwaitsSecond → e ≡ true
 second_by true b c d e f g h k = absurd cc
 second_by false true c d e f g h k = absurd cc
@@ -85,6 +91,7 @@ pub awaits_second : (state : ℕ) → doing_of state ≡ AwaitsSecond → state 
 unfolding doing_of
 awaits_second s k = eqb-true s 5 (second_by (s == 1) (s == 2) (s == 3) (s == 4) (s == 5) (s == 6) (s == 7) (s == 8) k)
 
+-- a grant begins no lookup
 pub granted_look : (b : Bool) (g : Doing) → state_of (granted_by b g) ≡ 1 → g ≡ Looks
 unfolding granted_by
 granted_look b Looks e = refl

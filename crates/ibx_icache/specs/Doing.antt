@@ -2,7 +2,8 @@
 use Rattle.std.specs.Prelude.{ℕ, ◌+◌, ◌*◌, ◌/◌, Bool, true, false, ◌&&◌, ◌==◌, if◌then◌else◌}
 use Rattle.ibx_isa.specs.declared.bus.Req.{Req}
 use Rattle.ibx_icache.specs.declared.doing.Doing.{Doing}
-use Rattle.ibx_icache.specs.declared.doing.Doing.TheVariants.{Rests, Looks, AsksFirst, AwaitsFirst, AsksSecond, AwaitsSecond, Answers, AsksBare, AwaitsBare}
+use Rattle.ibx_icache.specs.declared.doing.Doing.TheVariants.{Rests, Looks, AsksFirst, AwaitsFirst, AsksSecond}
+use Rattle.ibx_icache.specs.declared.doing.Doing.TheVariants.{AwaitsSecond, Answers, AsksBare, AwaitsBare}
 use Rattle.ibx_isa.specs.Wires.{no_request, fetch_wires}
 
 -- what a state is; another state acts as 0
@@ -18,6 +19,7 @@ doing_of state =
     if state == 8 then AwaitsBare else
     Rests
 
+-- the number of a state, by which the field holds it
 abbrev pub state_of : Doing → ℕ
 state_of Rests = 0
 state_of Looks = 1
@@ -29,10 +31,12 @@ state_of Answers = 6
 state_of AsksBare = 7
 state_of AwaitsBare = 8
 
+-- no request is outstanding
 abbrev pub is_rest : Doing → Bool
 is_rest Rests = true
 is_rest _ = false
 
+-- a cached request is looked up in this cycle
 abbrev pub is_look : Doing → Bool
 is_look Looks = true
 is_look _ = false

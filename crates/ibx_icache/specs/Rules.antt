@@ -1,4 +1,5 @@
--- The rules of the cache and of its word port, each apart from how a cycle is worked out. A way is way 1 where it is `true`.
+-- The rules of the cache and of its word port, each apart from how a cycle is worked out. A way is way 1 where it is
+-- `true`.
 -- Our own rule.
 use Rattle.std.specs.Prelude.{◌≡◌, ◌≢◌, ℕ, zero, suc, ◌+◌, ◌/◌, ◌%◌, ◌^◌, ◌<◌, ◌≤◌, Bool, true, false}
 use Rattle.ibx_isa.specs.declared.bus.Req.{Req}
@@ -17,6 +18,7 @@ abbrev pub tag_in : Look → Bool → ℕ
 tag_in l false = l.tag0
 tag_in l true = l.tag1
 
+-- the data word that was read of a way
 abbrev pub word_in_way : Look → Bool → ℕ
 word_in_way l false = l.data0
 word_in_way l true = l.data1
@@ -40,6 +42,7 @@ pub record IsHit (l : Look) (addr : ℕ) (way : Bool) : Type 0 where
   pub found : IsFound l addr way
   pub sound : (other : Bool) → ¬ IsBad l addr other
 
+-- no way is a hit
 abbrev pub IsMiss : Look → ℕ → Type 0
 IsMiss l addr = (way : Bool) → ¬ IsHit l addr way
 
@@ -47,11 +50,14 @@ IsMiss l addr = (way : Bool) → ¬ IsHit l addr way
 abbrev pub IsEmpty : Look → Bool → Type 0
 IsEmpty l way = payload_of 22 (tag_in l way) < 2 ^ 21
 
--- a miss fills the lowest way that is bad, else the lowest that is empty, else the other than that of the last stored line
+-- a miss fills the lowest way that is bad, else the lowest that is empty, else the other than that of the last stored
+-- line
 pub data IsVictim (l : Look) (addr : ℕ) (other way : Bool) : Type 0 where
   mends : IsBad l addr way → (way ≡ true → ¬ IsBad l addr false) → IsVictim l addr other way
-  fills : ((each : Bool) → ¬ IsBad l addr each) → IsEmpty l way → (way ≡ true → ¬ IsEmpty l false) → IsVictim l addr other way
-  turns : ((each : Bool) → ¬ IsBad l addr each) → ((each : Bool) → ¬ IsEmpty l each) → way ≡ other → IsVictim l addr other way
+  fills : ((each : Bool) → ¬ IsBad l addr each) → IsEmpty l way → (way ≡ true → ¬ IsEmpty l false)
+      → IsVictim l addr other way
+  turns : ((each : Bool) → ¬ IsBad l addr each) → ((each : Bool) → ¬ IsEmpty l each) → way ≡ other
+      → IsVictim l addr other way
 
 -- the answer of a hit
 abbrev pub hit_answer : ℕ → WordAns
@@ -85,8 +91,8 @@ pub record IsOutput (o : CacheOut) : Type 0 where
   pub line0 : o.line0 < 2 ^ 39
   pub line1 : o.line1 < 2 ^ 39
 
--- a line is stored in the cycle of its second answer, where neither of its words is an error, no FENCE.I came after its request, and
--- the cache is empty of what came before the last one
+-- a line is stored in the cycle of its second answer, where neither of its words is an error, no FENCE.I came after
+-- its request, and the cache is empty of what came before the last one
 pub record IsStored (w : WordPort) (i : WordIn) : Type 0 where
   pub awaits : w.c_state ≡ 5
   pub comes : i.rsp.valid ≡ true
@@ -134,7 +140,8 @@ fields_at w run (suc n) = word_port_next (fields_at w run n) (run.comes n) (run.
 pub record IsOutstanding (w : WordPort) (run : Run) (t c : ℕ) : Type 0 where
   pub later : t < c
   pub cached : (fields_at w run (suc t)).c_state ≡ 1
-  pub silent : (k : ℕ) → t < k → k < c → (answer_of (fields_at w run k) (run.comes k).rsp (run.comes k).look).valid ≡ false
+  pub silent : (k : ℕ) → t < k → k < c
+      → (answer_of (fields_at w run k) (run.comes k).rsp (run.comes k).look).valid ≡ false
 
 -- no line is stored with a FENCE.I in any cycle from its request to its second answer
 abbrev pub KeepsFences : WordPort → Type 0
@@ -144,4 +151,5 @@ KeepsFences w =
 
 -- the walk empties set n in cycle n, until a FENCE.I comes or all 256 sets are empty
 abbrev pub Emptying : WordPort → Type 0
-Emptying w = (run : Run) (n : ℕ) → n ≤ 256 → ((k : ℕ) → k < n → (run.comes k).fence ≡ false) → (fields_at w run n).c_walk ≡ n
+Emptying w =
+    (run : Run) (n : ℕ) → n ≤ 256 → ((k : ℕ) → k < n → (run.comes k).fence ≡ false) → (fields_at w run n).c_walk ≡ n

@@ -1,12 +1,14 @@
 -- The word port, phase by phase: the lookup, the answer, a request, a grant, FENCE.I and the walk. Our own rule.
-use Rattle.std.specs.Prelude.{◌≡◌, ℕ, ◌+◌, ◌*◌, ◌/◌, ◌%◌, ◌^◌, ◌<◌, Bool, true, false, not, ◌&&◌, ◌||◌, ◌==◌, nat_lt, nat_le, if◌then◌else◌, Option, Some, None, List, slice_index}
+use Rattle.std.specs.Prelude.{◌≡◌, ℕ, ◌+◌, ◌*◌, ◌/◌, ◌%◌, ◌^◌, ◌<◌, Bool, true, false, not, ◌&&◌, ◌||◌, ◌==◌, nat_lt}
+use Rattle.std.specs.Prelude.{nat_le, if◌then◌else◌, Option, Some, None, List, slice_index}
 use Rattle.ibx_isa.specs.declared.bus.Alerts.{Alerts}
 use Rattle.ibx_isa.specs.declared.bus.Req.{Req}
 use Rattle.ibx_isa.specs.declared.bus.Rsp.{Rsp}
 use Rattle.ibx_secded.specs.Code.{encode_of, payload_of, syndrome_of}
 use Rattle.ibx_prefetch.specs.declared.buffer.WordAns.{WordAns}
 use Rattle.ibx_icache.specs.declared.doing.Doing.{Doing}
-use Rattle.ibx_icache.specs.declared.doing.Doing.TheVariants.{Rests, Looks, AwaitsFirst, AwaitsSecond, Answers, AwaitsBare}
+use Rattle.ibx_icache.specs.declared.doing.Doing.TheVariants.{Rests, Looks, AwaitsFirst, AwaitsSecond, Answers}
+use Rattle.ibx_icache.specs.declared.doing.Doing.TheVariants.{AwaitsBare}
 use Rattle.ibx_icache.specs.declared.lookup.Look.{Look}
 use Rattle.ibx_icache.specs.declared.port.WordPort.{WordPort}
 use Rattle.ibx_icache.specs.declared.wires.CacheIn.{CacheIn}
@@ -18,7 +20,16 @@ use Rattle.ibx_prefetch.specs.Buffer.{entry_of}
 
 -- the port at reset: no request is outstanding, and the walk begins
 unfoldable pub reset_of : WordPort
-reset_of = record { c_state = 0; c_addr = 0; c_word0 = 0; c_word1 = 0; c_way = false; c_alt = false; c_walk = 0; c_nostore = false }
+reset_of = record {
+  c_state = 0;
+  c_addr = 0;
+  c_word0 = 0;
+  c_word1 = 0;
+  c_way = false;
+  c_alt = false;
+  c_walk = 0;
+  c_nostore = false;
+}
 
 -- its fields are within their widths
 pub record IsFields (w : WordPort) : Type 0 where
@@ -40,7 +51,12 @@ pub record AreCodewords (tag word0 word1 : ℕ) : Type 0 where
 
 -- the words that are read, tags and data words by way
 abbrev pub look_of : List ℕ → List ℕ → Look
-look_of tags lanes = record { tag0 = slice_index tags 0; tag1 = slice_index tags 1; data0 = slice_index lanes 0; data1 = slice_index lanes 1 }
+look_of tags lanes = record {
+  tag0 = slice_index tags 0;
+  tag1 = slice_index tags 1;
+  data0 = slice_index lanes 0;
+  data1 = slice_index lanes 1;
+}
 
 -- they are within their widths
 pub record IsLook (l : Look) : Type 0 where
@@ -67,6 +83,7 @@ is_bad0 l addr = is_bad_tag l.tag0 || (matches l.tag0 addr && is_bad_word l.data
 abbrev pub is_bad1 : Look → ℕ → Bool
 is_bad1 l addr = is_bad_tag l.tag1 || (not (matches l.tag0 addr) && matches l.tag1 addr && is_bad_word l.data1)
 
+-- either way is bad
 abbrev pub has_bad : Look → ℕ → Bool
 has_bad l addr = is_bad0 l addr || is_bad1 l addr
 
@@ -82,7 +99,8 @@ found_word l addr = payload_of 32 (if matches l.tag0 addr then l.data0 else l.da
 abbrev pub is_empty : ℕ → Bool
 is_empty tag = payload_of 22 tag / 2 ^ 21 == 0
 
--- the way that a miss fills: the lowest that is bad, else the lowest that is empty, else the other than that of the last stored line
+-- the way that a miss fills: the lowest that is bad, else the lowest that is empty, else the other than that of the
+-- last stored line
 unfoldable pub victim_of : Look → ℕ → Bool → Bool
 victim_of l addr alt =
     if is_bad0 l addr then false else
@@ -133,7 +151,8 @@ unfoldable pub gone_by : Doing → Bool → Bool → Bool → Bool → ℕ → W
 gone_by Looks came true stores way entry w = with_doing Rests w
 gone_by Looks came false stores way entry w = record w { c_state = 2; c_way = way }
 gone_by AwaitsFirst true hit stores way entry w = record w { c_state = 4; c_word0 = entry }
-gone_by AwaitsSecond true hit stores way entry w = record w { c_state = 6; c_word1 = entry; c_alt = if stores then not w.c_way else w.c_alt }
+gone_by AwaitsSecond true hit stores way entry w =
+    record w { c_state = 6; c_word1 = entry; c_alt = if stores then not w.c_way else w.c_alt }
 gone_by Answers came hit stores way entry w = with_doing Rests w
 gone_by AwaitsBare true hit stores way entry w = with_doing Rests w
 gone_by Rests came hit stores way entry w = with_doing Rests w
@@ -165,8 +184,10 @@ pub record WordIn : Type 0 where
   pub rsp : Rsp
   pub look : Look
 
+-- the same of the wires of a cycle, whose words read are tags and data by way
 abbrev pub word_in : CacheIn → WordIn
-word_in i = record { request = i.request; enable = i.enable; fence = i.fence; rsp = i.rsp; look = look_of i.tags i.lanes }
+word_in i =
+    record { request = i.request; enable = i.enable; fence = i.fence; rsp = i.rsp; look = look_of i.tags i.lanes }
 
 -- the wires that it is handed are within their widths
 pub record IsInput (i : CacheIn) : Type 0 where
@@ -176,7 +197,8 @@ pub record IsInput (i : CacheIn) : Type 0 where
 -- whether the line is stored: neither word is an error, no FENCE.I came since the request, and the walk has ended
 abbrev pub stores_of : WordPort → WordIn → Bool
 stores_of w i =
-    stores_by (doing_of w.c_state) i.rsp.valid (not (is_wrong i.rsp) && w.c_word0 / 2 ^ 32 == 0 && not (w.c_nostore || i.fence)) (nat_le 256 w.c_walk)
+    stores_by (doing_of w.c_state) i.rsp.valid
+    (not (is_wrong i.rsp) && w.c_word0 / 2 ^ 32 == 0 && not (w.c_nostore || i.fence)) (nat_le 256 w.c_walk)
 
 -- a FENCE.I while a request is outstanding keeps its line from being stored
 abbrev pub marked : Bool → WordPort → WordPort
@@ -185,7 +207,8 @@ marked fence w = record w { c_nostore = not (is_rest (doing_of w.c_state)) && (w
 -- the port after what comes
 abbrev pub after_answer : WordPort → WordIn → WordPort
 after_answer w i =
-    marked i.fence (gone_by (doing_of w.c_state) i.rsp.valid (is_hit i.look w.c_addr) (stores_of w i) (victim_of i.look w.c_addr w.c_alt) (rsp_entry i.rsp) w)
+    marked i.fence (gone_by (doing_of w.c_state) i.rsp.valid (is_hit i.look w.c_addr) (stores_of w i)
+    (victim_of i.look w.c_addr w.c_alt) (rsp_entry i.rsp) w)
 
 -- a request is cached where the cache is on and empty of what came before the last FENCE.I
 abbrev pub is_cached : WordPort → WordIn → Bool
@@ -214,7 +237,8 @@ unfoldable pub filling_of : WordPort → WordIn → Filling
 filling_of w i =
     if nat_lt w.c_walk 256 then Clears w.c_walk else
     if stores_of w i
-    then Stores (slot_of w.c_addr w.c_way) (encode_of 22 6 (2 ^ 21 + w.c_addr / 2 ^ 11)) (encode_of 32 7 (w.c_word0 % 2 ^ 32)) (encode_of 32 7 (payload_of 32 i.rsp.word))
+    then Stores (slot_of w.c_addr w.c_way) (encode_of 22 6 (2 ^ 21 + w.c_addr / 2 ^ 11))
+    (encode_of 32 7 (w.c_word0 % 2 ^ 32)) (encode_of 32 7 (payload_of 32 i.rsp.word))
     else Nothing
 
 -- the words of a line that is stored are codewords, and the set that is emptied is within its width
@@ -238,14 +262,26 @@ alerts_by true true = record { 0 = 5 }
 
 -- MINOR where a way that is looked up is bad, and BUS where a word that the bus answers has a flipped bit
 unfoldable pub alerts_of : WordPort → WordIn → Alerts
-alerts_of w i = alerts_by (is_look (doing_of w.c_state) && has_bad i.look w.c_addr) (i.rsp.valid && is_bad_word i.rsp.word)
+alerts_of w i =
+    alerts_by (is_look (doing_of w.c_state) && has_bad i.look w.c_addr) (i.rsp.valid && is_bad_word i.rsp.word)
 
 -- the wires of what is written
 abbrev pub out_by : Filling → Req → Alerts → CacheOut
-out_by Nothing bus alerts = record { bus = bus; ways = 0; set = 0; tag = 0; line0 = 0; line1 = 0; clear = false; alerts = alerts }
-out_by (Clears set) bus alerts = record { bus = bus; ways = 0; set = set; tag = 0; line0 = 0; line1 = 0; clear = true; alerts = alerts }
+out_by Nothing bus alerts =
+    record { bus = bus; ways = 0; set = 0; tag = 0; line0 = 0; line1 = 0; clear = false; alerts = alerts }
+out_by (Clears set) bus alerts =
+    record { bus = bus; ways = 0; set = set; tag = 0; line0 = 0; line1 = 0; clear = true; alerts = alerts }
 out_by (Stores slot tag word0 word1) bus alerts =
-    record { bus = bus; ways = if slot % 2 == 0 then 1 else 2; set = slot / 2 % 256; tag = tag; line0 = word0; line1 = word1; clear = false; alerts = alerts }
+    record {
+      bus = bus;
+      ways = if slot % 2 == 0 then 1 else 2;
+      set = slot / 2 % 256;
+      tag = tag;
+      line0 = word0;
+      line1 = word1;
+      clear = false;
+      alerts = alerts;
+    }
 
 -- what it drives
 unfoldable pub out_of : WordPort → WordIn → CacheOut

@@ -76,7 +76,7 @@ impl Doing {
         }
     }
 
-    // Whether the request answers; `came` is that the bus answers, and `hit` that the line is there.
+    /// Whether the request answers; `came` is that the bus answers, and `hit` that the line is there.
     #[tactic(auto, unfolding(crate::specs::Doing::answers_by))]
     pub fn answers(self, came: bool, hit: bool) -> bool
         ensures { result ≡ answers_by self came hit }
@@ -89,7 +89,7 @@ impl Doing {
         }
     }
 
-    // Whether the line is stored; `good` is that it may be, and `ended` that the walk has ended.
+    /// Whether the line is stored; `good` is that it may be, and `ended` that the walk has ended.
     pub fn stores(self, came: bool, good: bool, ended: bool) -> bool
         ensures { result ≡ stores_by self came good ended }
     {
@@ -114,7 +114,7 @@ impl Doing {
         }
     }
 
-    // The wires on the bus, for a request of the word at `addr`.
+    /// The wires on the bus, for a request of the word at `addr`.
     #[tactic(auto, unfolding(crate::specs::Doing::wires_by))]
     pub fn wires(self, addr: u32) -> Req
         ensures { result ≡ wires_by self addr }

@@ -42,7 +42,7 @@ impl Look {
             || (!matches(self.tag0, addr) && matches(self.tag1, addr) && is_bad_word(self.data1))
     }
 
-    // Whether a way is bad: its tag word has a flipped bit, or it is the lowest that matches and its data word has one.
+    /// Whether a way is bad: its tag word has a flipped bit, or it is the lowest that matches and its data word has one.
     pub fn is_bad(&self, addr: u32) -> bool
         requires { IsLook self.now }
         ensures { result ≡ has_bad self.now addr }
@@ -50,7 +50,7 @@ impl Look {
         self.is_bad0(addr) || self.is_bad1(addr)
     }
 
-    // Whether a way matches and no way is bad.
+    /// Whether a way matches and no way is bad.
     #[tactic(auto, unfolding(crate::specs::WordPort::is_hit))]
     pub fn is_hit(&self, addr: u32) -> bool
         requires { IsLook self.now }
@@ -59,7 +59,7 @@ impl Look {
         (matches(self.tag0, addr) || matches(self.tag1, addr)) && !self.is_bad(addr)
     }
 
-    // The word of the lowest way that matches.
+    /// The word of the lowest way that matches.
     #[tactic(auto, unfolding(crate::specs::WordPort::found_word))]
     pub fn found_word(&self, addr: u32) -> u32
         ensures { result ≡ found_word self.now addr }
@@ -72,7 +72,7 @@ impl Look {
         Code::<32, 7>::payload(word) as u32
     }
 
-    // The way that a miss fills, `true` for way 1: the lowest that is bad, else the lowest that is empty, else `other`.
+    /// The way that a miss fills, `true` for way 1: the lowest that is bad, else the lowest that is empty, else `other`.
     #[tactic(auto, unfolding(crate::specs::WordPort::victim_of))]
     pub fn victim(&self, addr: u32, other: bool) -> bool
         requires { IsLook self.now }

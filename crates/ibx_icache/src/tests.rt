@@ -109,18 +109,18 @@ impl Bench {
 fn misses_and_hits(rt: HostRuntime) {
     let mut bench = Bench::new(256);
     let rows = [
-        (0x0010_0000, 4, 1),
-        (0x0010_0800, 4, 2),
-        (0x0010_1000, 4, 1),
-        (0x0010_0000, 4, 2),
-        (0x0010_0004, 1, 0),
-        (0x0010_1000, 1, 0),
-        (0x0010_1004, 1, 0),
-        (0x0010_0804, 4, 1),
-        (0x0010_0804, 1, 0),
+        ("a line in an empty set", 0x0010_0000, 4, 1),
+        ("a second line", 0x0010_0800, 4, 2),
+        ("a third line, over the first", 0x0010_1000, 4, 1),
+        ("the first line again, over the second", 0x0010_0000, 4, 2),
+        ("the other word of that line", 0x0010_0004, 1, 0),
+        ("the third line", 0x0010_1000, 1, 0),
+        ("its other word", 0x0010_1004, 1, 0),
+        ("the second line again, over the third", 0x0010_0804, 4, 1),
+        ("the same word again", 0x0010_0804, 1, 0),
     ];
-    for (addr, cycles, ways) in rows {
-        assert_eq!(rt; bench.fetch(addr, 0), (cycles, addr, ways));
+    for (name, addr, cycles, ways) in rows {
+        assert_eq!(rt; bench.fetch(addr, 0), (cycles, addr, ways), "at {name}");
     }
 }
 
@@ -129,7 +129,11 @@ fn misses_and_hits(rt: HostRuntime) {
 fn fence_while_filling(rt: HostRuntime) {
     for (fence, ways) in [(0, 1), (1, 0), (2, 0), (3, 0), (4, 1)] {
         let mut bench = Bench::new(256);
-        assert_eq!(rt; bench.fetch(0x0010_0004, fence), (4, 0x0010_0004, ways));
+        assert_eq!(rt;
+            bench.fetch(0x0010_0004, fence),
+            (4, 0x0010_0004, ways),
+            "at cycle {fence}"
+        );
     }
 }
 
@@ -139,24 +143,28 @@ fn walk(rt: HostRuntime) {
     let mut bench = Bench::new(0);
     for set in 0u8..=255 {
         let (_, out) = bench.cycle(None, false);
-        assert!(rt; out.clear);
-        assert_eq!(rt; (out.set, out.ways, out.tag), (set, 0, 0));
+        assert!(rt; out.clear, "at set {set}");
+        assert_eq!(rt; (out.set, out.ways, out.tag), (set, 0, 0), "at set {set}");
     }
     let (_, out) = bench.cycle(None, true);
     assert!(rt; !out.clear);
     assert_eq!(rt; bench.port.c_walk, 0);
     let rows = [
-        (0, false, true),
-        (255, false, true),
-        (256, false, false),
-        (256, true, true),
-        (511, false, false),
+        ("the walk's first set", 0, false, true),
+        ("the walk's last set", 255, false, true),
+        ("after the walk", 256, false, false),
+        ("after the walk, with a FENCE.I", 256, true, true),
+        ("a count that no walk reaches", 511, false, false),
     ];
-    for (c_walk, fence, bare) in rows {
+    for (name, c_walk, fence, bare) in rows {
         let mut bench = Bench::new(c_walk);
         let (_, out) = bench.cycle(Some(0x0010_0002), fence);
-        assert_eq!(rt; out.bus.valid, bare);
-        assert_eq!(rt; out.bus.addr, if bare { 0x0010_0000 } else { 0 });
+        assert_eq!(rt; out.bus.valid, bare, "at {name}");
+        assert_eq!(rt;
+            out.bus.addr,
+            if bare { 0x0010_0000 } else { 0 },
+            "at {name}"
+        );
     }
 }
 
@@ -191,14 +199,21 @@ fn wires_of_a_miss(rt: HostRuntime) {
 #[test]
 fn flipped_bits(rt: HostRuntime) {
     let rows = [
-        ([0, 0], [0, 0], true, 0, 0),
-        ([1, 0], [0, 0], false, 1, 1),
-        ([0, 0x800_0000], [0, 0], false, 1, 2),
-        ([1, 1], [0, 0], false, 1, 1),
-        ([0, 0], [4, 0], false, 1, 1),
-        ([0, 0], [0, 4], true, 0, 0),
+        ("no flip", [0, 0], [0, 0], true, 0, 0),
+        ("the tag of way 0", [1, 0], [0, 0], false, 1, 1),
+        ("the tag of way 1", [0, 0x800_0000], [0, 0], false, 1, 2),
+        ("both tags", [1, 1], [0, 0], false, 1, 1),
+        (
+            "the word of way 0, which is looked up",
+            [0, 0],
+            [4, 0],
+            false,
+            1,
+            1,
+        ),
+        ("the word of way 1, which isn't", [0, 0], [0, 4], true, 0, 0),
     ];
-    for (tags, lanes, hit, alerts, ways) in rows {
+    for (name, tags, lanes, hit, alerts, ways) in rows {
         let mut bench = Bench::new(256);
         let _line = bench.fetch(0x0010_0000, 0);
         let _other = bench.fetch(0x0010_0800, 0);
@@ -206,11 +221,11 @@ fn flipped_bits(rt: HostRuntime) {
         bench.firsts = [bench.firsts[0] ^ lanes[0], bench.firsts[1] ^ lanes[1]];
         let _taken = bench.cycle(Some(0x0010_0000), false);
         let (ans, out) = bench.cycle(None, false);
-        assert_eq!(rt; ans.valid, hit);
-        assert_eq!(rt; out.alerts, Alerts(alerts));
+        assert_eq!(rt; ans.valid, hit, "at {name}");
+        assert_eq!(rt; out.alerts, Alerts(alerts), "at {name}");
         let (_, _) = bench.cycle(None, false);
         let (_, stored) = bench.cycle(None, false);
-        assert_eq!(rt; stored.ways, ways);
+        assert_eq!(rt; stored.ways, ways, "at {name}");
     }
 }
 
@@ -218,14 +233,62 @@ fn flipped_bits(rt: HostRuntime) {
 #[test]
 fn errors_of_a_fill(rt: HostRuntime) {
     let rows = [
-        (0x0010_0000, true, 0, false, 0, true),
-        (0x0010_0004, true, 0, false, 0, false),
-        (0x0010_0000, false, 0, true, 0, false),
-        (0x0010_0004, false, 0, true, 0, true),
-        (0x0010_0000, false, 1, false, 0, true),
-        (0x0010_0004, false, 0, false, 0x40_0000_0000, true),
+        (
+            "its own word, the first, is an error",
+            0x0010_0000,
+            true,
+            0,
+            false,
+            0,
+            true,
+        ),
+        (
+            "the other word, the first, is an error",
+            0x0010_0004,
+            true,
+            0,
+            false,
+            0,
+            false,
+        ),
+        (
+            "the other word, the second, is an error",
+            0x0010_0000,
+            false,
+            0,
+            true,
+            0,
+            false,
+        ),
+        (
+            "its own word, the second, is an error",
+            0x0010_0004,
+            false,
+            0,
+            true,
+            0,
+            true,
+        ),
+        (
+            "its own word, the first, has a flip",
+            0x0010_0000,
+            false,
+            1,
+            false,
+            0,
+            true,
+        ),
+        (
+            "its own word, the second, has a flip",
+            0x0010_0004,
+            false,
+            0,
+            false,
+            0x40_0000_0000,
+            true,
+        ),
     ];
-    for (addr, err0, flip0, err1, flip1, err) in rows {
+    for (name, addr, err0, flip0, err1, flip1, err) in rows {
         let mut bench = Bench::new(256);
         let _taken = bench.cycle(Some(addr), false);
         let _missed = bench.cycle(None, false);
@@ -242,8 +305,20 @@ fn errors_of_a_fill(rt: HostRuntime) {
         };
         let (_, second) = bench.cycle(None, false);
         let (ans, _) = bench.cycle(None, false);
-        assert_eq!(rt; (ans.valid, ans.err, second.ways), (true, err, 0));
-        assert_eq!(rt; first.alerts, Alerts(if flip0 == 0 { 0 } else { 4 }));
-        assert_eq!(rt; second.alerts, Alerts(if flip1 == 0 { 0 } else { 4 }));
+        assert_eq!(rt;
+            (ans.valid, ans.err, second.ways),
+            (true, err, 0),
+            "at {name}"
+        );
+        assert_eq!(rt;
+            first.alerts,
+            Alerts(if flip0 == 0 { 0 } else { 4 }),
+            "at {name}"
+        );
+        assert_eq!(rt;
+            second.alerts,
+            Alerts(if flip1 == 0 { 0 } else { 4 }),
+            "at {name}"
+        );
     }
 }

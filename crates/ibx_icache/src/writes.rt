@@ -23,7 +23,7 @@ pub enum Filling {
     },
 }
 
-// The slot of the line of an address in a way.
+/// The slot of the line of an address in a way.
 pub fn slot(addr: u32, way: bool) -> u16
     ensures value { result ≡ slot_of addr way }
     ensures fits { result < 512 }
@@ -31,7 +31,7 @@ pub fn slot(addr: u32, way: bool) -> u16
     (addr / 8 % 256 * 2) as u16 + if way { 1 } else { 0 }
 }
 
-// The tag word of the line of an address.
+/// The tag word of the line of an address.
 pub fn tag_word(addr: u32) -> u64
     ensures value { result ≡ encode_of 22 6 (2 ^ 21 + addr / 2 ^ 11) }
     ensures sound { syndrome_of 22 6 result ≡ 0 }
@@ -40,7 +40,7 @@ pub fn tag_word(addr: u32) -> u64
     Code::<22, 6>::encode(0x20_0000 + (addr / 0x800) as u64)
 }
 
-// The data word of a word without its error.
+/// The data word of a word without its error.
 pub fn data_word(entry: u64) -> u64
     ensures value { result ≡ encode_of 32 7 (entry % 2 ^ 32) }
     ensures sound { syndrome_of 32 7 result ≡ 0 }

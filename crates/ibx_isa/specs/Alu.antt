@@ -1,5 +1,7 @@
--- The integer computations and the comparisons of branches (Unprivileged ISA, 2.4 and 2.5), by whole numbers of 32 bits.
-use Rattle.std.specs.Prelude.{ℕ, ◌+◌, ◌-◌, ◌*◌, ◌/◌, ◌%◌, ◌^◌, pos, Bool, not, ◌==◌, nat_lt, int_lt, bit_and, bit_or, bit_xor}
+-- The integer computations and the comparisons of branches (Unprivileged ISA, 2.4 and 2.5), by whole numbers of 32
+-- bits.
+use Rattle.std.specs.Prelude.{ℕ, ◌+◌, ◌-◌, ◌*◌, ◌/◌, ◌%◌, ◌^◌, pos, Bool, not, ◌==◌, nat_lt, int_lt, bit_and, bit_or}
+use Rattle.std.specs.Prelude.{bit_xor}
 use Rattle.std.specs.Int.{cast_unsigned, from_bool, int_div_euclid, w32}
 use Rattle.ibx_isa.specs.Multiply.{signed}
 use Rattle.ibx_isa.specs.declared.insn.AluOp.{AluOp}

@@ -5,9 +5,11 @@ use Rattle.std.specs.Prelude.{ℕ}
 abbrev pub fetch_fault : ℕ
 fetch_fault = 1
 
+-- a word that is no instruction, or one that may not be executed in the mode that there is
 abbrev pub illegal_instruction : ℕ
 illegal_instruction = 2
 
+-- EBREAK
 abbrev pub breakpoint : ℕ
 breakpoint = 3
 

@@ -1,8 +1,8 @@
 -- The bits of the registers that control the core, as words.
 use Rattle.std.specs.Prelude.{ℕ}
 
--- mstatus (Privileged ISA 1.12, 3.1.6): interrupts are enabled, the same before the trap, the mode before the
--- trap (3 for M, 0 for U), loads and stores use that mode, and WFI is illegal in U mode
+-- mstatus (Privileged ISA 1.12, 3.1.6): MIE, interrupts are enabled; MPIE, the same before the trap; MPP, the mode
+-- before the trap (3 for M, 0 for U); MPRV, loads and stores use that mode; TW, WFI is illegal in U mode
 abbrev pub mie_bit : ℕ
 mie_bit = 0x8
 
@@ -18,7 +18,7 @@ mprv_bit = 0x20000
 abbrev pub tw_bit : ℕ
 tw_bit = 0x200000
 
--- mcountinhibit (3.1.12): mcycle stands still, and minstret does
+-- mcountinhibit (3.1.12): CY, mcycle stands still; IR, minstret does
 abbrev pub cy_bit : ℕ
 cy_bit = 0x1
 

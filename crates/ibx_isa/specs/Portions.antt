@@ -1,6 +1,7 @@
 -- How an access of 1, 2 or 4 bytes meets the words of memory (Unprivileged ISA, 1.4 and 2.6): bytes are little-endian,
 -- a word has four byte lanes, and an access that crosses a word has a second portion in the next one.
-use Rattle.std.specs.Prelude.{ℕ, ◌+◌, ◌-◌, ◌*◌, ◌/◌, ◌%◌, ◌^◌, min, Bool, true, false, ◌&&◌, nat_lt, nat_le, if◌then◌else◌}
+use Rattle.std.specs.Prelude.{ℕ, ◌+◌, ◌-◌, ◌*◌, ◌/◌, ◌%◌, ◌^◌, min, Bool, true, false, ◌&&◌, nat_lt, nat_le}
+use Rattle.std.specs.Prelude.{if◌then◌else◌}
 use Rattle.ibx_bits.specs.Bytes.{word_byte, bytes_number, bits_number, sign_extended}
 use Rattle.ibx_isa.specs.declared.insn.LoadOp.{LoadOp}
 use Rattle.ibx_isa.specs.declared.insn.LoadOp.TheVariants.{Lb, Lh, Lw, Lbu, Lhu}
@@ -42,15 +43,18 @@ place_of true lane = lane + 4
 
 -- whether a lane of a portion holds a byte of the access
 abbrev pub is_held : ℕ → ℕ → Bool → ℕ → Bool
-is_held addr size second lane = nat_le (addr % 4) (place_of second lane) && nat_lt (place_of second lane) (addr % 4 + size)
+is_held addr size second lane =
+    nat_le (addr % 4) (place_of second lane) && nat_lt (place_of second lane) (addr % 4 + size)
 
 -- the byte in a lane of a portion; a lane that holds none is 0
 abbrev pub lane_byte : ℕ → ℕ → ℕ → Bool → ℕ → ℕ
-lane_byte addr size value second lane = if is_held addr size second lane then word_byte value (place_of second lane - addr % 4) else 0
+lane_byte addr size value second lane =
+    if is_held addr size second lane then word_byte value (place_of second lane - addr % 4) else 0
 
 -- the byte enables of a portion, and its lanes as a word
 unfoldable pub lanes_of : ℕ → ℕ → ℕ → Bool → ℕ × ℕ
-lanes_of addr size value second = (bits_number (is_held addr size second) 4, bytes_number (lane_byte addr size value second) 4)
+lanes_of addr size value second =
+    (bits_number (is_held addr size second) 4, bytes_number (lane_byte addr size value second) 4)
 
 -- byte k of two words that follow each other
 abbrev pub pair_byte : ℕ → ℕ → ℕ → ℕ

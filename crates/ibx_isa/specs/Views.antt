@@ -20,6 +20,15 @@ unfoldable pub view_of : Event → View
 view_of (Retire cycle pc word rd value mem ctl ops) =
     record { kind = 0; pc = pc; word = word; addr = access_addr mem; ctl = ctl; ops = ops; cause = 0; tval = 0 }
 view_of (Trap cycle pc word cause tval addr) =
-    record { kind = 1; pc = pc; word = word; addr = fault_addr cause addr; ctl = None; ops = None; cause = cause; tval = tval }
+    record {
+      kind = 1;
+      pc = pc;
+      word = word;
+      addr = fault_addr cause addr;
+      ctl = None;
+      ops = None;
+      cause = cause;
+      tval = tval;
+    }
 view_of (Irq cycle pc cause) =
     record { kind = 2; pc = pc; word = 0; addr = None; ctl = None; ops = None; cause = cause; tval = 0 }

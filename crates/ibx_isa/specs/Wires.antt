@@ -1,4 +1,5 @@
--- The wires of the requests on the bus, from a transaction's issue to its grant. An address is that of a word, aligned to 4.
+-- The wires of the requests on the bus, from a transaction's issue to its grant. An address is that of a word, aligned
+-- to 4.
 -- Our own rule.
 use Rattle.std.specs.Prelude.{◌≡◌, ℕ, ◌*◌, ◌/◌, ◌<◌, ◌%◌, ◌^◌, Bool, false, true, if◌then◌else◌}
 use Rattle.ibx_isa.specs.declared.bus.Req.{Req}
@@ -13,7 +14,8 @@ no_request = record { valid = false; write = false; be = 0; addr = 0; word = 0 }
 abbrev pub fetch_wires : ℕ → Req
 fetch_wires address = record { valid = true; write = false; be = 15; addr = address; word = 0 }
 
--- the request for a portion of an access, with the code of the bus: the word's address, the byte enables, and a store's lanes
+-- the request for a portion of an access, with the code of the bus: the word's address, the byte enables, and a
+-- store's lanes
 unfoldable pub request_of : (ℕ → ℕ) → Access → Bool → Req
 request_of code want second =
     (let lanes = lanes_of want.addr want.size want.value second in

@@ -8,6 +8,7 @@ use Rattle.ibx_lockstep.specs.Rings.{after_push, filled, value_back, with_value_
 use Rattle.ibx_lockstep.proofs.Rings.{here, newest, older, others, value-filled}
 
 module _ {T : Type 0} where
+  -- the newer and the older of two values: filled with one, after a push, and after either is set
   pub newer_filled : (x : T) → value_back 2 (filled x) 1 ≡ x
   newer_filled x = value-filled 2 x 1 (omega arith) (omega arith)
 
@@ -24,13 +25,15 @@ module _ {T : Type 0} where
   set_older s x = here 2 s 2 x (omega arith) (omega arith)
 
   older_stays : (s : Slots T) (x : T) → value_back 2 (with_value_back 2 s 1 x) 2 ≡ value_back 2 s 2
-  older_stays s x = others 2 s 1 2 x (omega arith) (omega arith) (omega arith) (omega arith) (omega arith) (λ e. omega arith)
+  older_stays s x =
+      others 2 s 1 2 x (omega arith) (omega arith) (omega arith) (omega arith) (omega arith) (λ e. omega arith)
 
   set_newer : (s : Slots T) (x : T) → value_back 2 (with_value_back 2 s 1 x) 1 ≡ x
   set_newer s x = here 2 s 1 x (omega arith) (omega arith)
 
   newer_stays : (s : Slots T) (x : T) → value_back 2 (with_value_back 2 s 2 x) 1 ≡ value_back 2 s 1
-  newer_stays s x = others 2 s 2 1 x (omega arith) (omega arith) (omega arith) (omega arith) (omega arith) (λ e. omega arith)
+  newer_stays s x =
+      others 2 s 2 1 x (omega arith) (omega arith) (omega arith) (omega arith) (omega arith) (λ e. omega arith)
 
 -- the pair with another delayed pair in a slot
 pub set_delayed : {S I O : Type 0} (p : Pair S I O) (slot : ℕ) (i : I) (o : O) → slot < 2

@@ -1,9 +1,11 @@
 -- A ring gives back what was pushed.
-use Rattle.std.proofs.Common.{◌≡◌, ℕ, zero, suc, ◌+◌, ◌-◌, ◌%◌, ◌<◌, ◌≤◌, List, [], ◌∷◌, take, replicate, slice_get, slice_index_or, slice_set, Some, inl, inr, refl, ap, subst, sym, ◌∙◌, arith}
+use Rattle.std.proofs.Common.{◌≡◌, ℕ, zero, suc, ◌+◌, ◌-◌, ◌%◌, ◌<◌, ◌≤◌, List, [], ◌∷◌, take, replicate, slice_get}
+use Rattle.std.proofs.Common.{slice_index_or, slice_set, Some, inl, inr, refl, ap, subst, sym, ◌∙◌, arith}
 use Rattle.std.proofs.lemmas.Bool.{cases_order}
 use Rattle.ibx_lockstep.specs.declared.ring.Ring.{Ring}
 use Rattle.ibx_lockstep.specs.declared.slots.Slots.{Slots}
-use Rattle.ibx_lockstep.specs.Rings.{after_push, after_pushes, back_of, filled, fresh, pushed, put, recent, slot, value_back, values_back, with_back, with_value_back}
+use Rattle.ibx_lockstep.specs.Rings.{after_push, after_pushes, back_of, filled, fresh, pushed, put, recent, slot}
+use Rattle.ibx_lockstep.specs.Rings.{value_back, values_back, with_back, with_value_back}
 
 -- the slot of the newest value after a push is the one that was written, and each other value keeps its own
 newest_place : (d p : ℕ) → 1 ≤ d → d ≤ 4 → ((p % d + 1) % d + d - 1) % d ≡ p % d
@@ -22,6 +24,7 @@ later_place (suc (suc (suc zero))) p k four some kept = omega arith
 later_place (suc (suc (suc (suc zero)))) p k four some kept = omega arith
 later_place (suc (suc (suc (suc (suc d))))) p k four some kept = omega arith
 
+-- values of different ages stand in different slots, and none that is kept in the slot that a push writes
 apart_place : (d p j k : ℕ) → d ≤ 4 → 1 ≤ j → j < k → k ≤ d → (p + d - k) % d ≡ (p + d - j) % d → ⊥
 apart_place zero p j k four some less kept e = omega arith
 apart_place (suc zero) p j k four some less kept e = omega arith
@@ -30,11 +33,15 @@ apart_place (suc (suc (suc zero))) p j k four some less kept e = omega arith
 apart_place (suc (suc (suc (suc zero)))) p j k four some less kept e = omega arith
 apart_place (suc (suc (suc (suc (suc d))))) p j k four some less kept e = omega arith
 
-places_apart : (d p j k : ℕ) → d ≤ 4 → 1 ≤ j → j ≤ d → 1 ≤ k → k ≤ d → (j ≡ k → ⊥) → (p + d - k) % d ≡ (p + d - j) % d → ⊥
+places_apart : (d p j k : ℕ) → d ≤ 4 → 1 ≤ j → j ≤ d → 1 ≤ k → k ≤ d → (j ≡ k → ⊥) → (p + d - k) % d ≡ (p + d - j) % d
+    → ⊥
 places_apart d p j k four first last some kept apart e =
     elim (cases_order j k) [
       | inl same ↦ apart same
-      | inr other ↦ elim other [ inl less ↦ apart_place d p j k four first less kept e | inr more ↦ apart_place d p k j four some more last (sym e) ]
+      | inr other ↦ elim other [
+        | inl less ↦ apart_place d p j k four first less kept e
+        | inr more ↦ apart_place d p k j four some more last (sym e)
+      ]
     ]
 
 older_place : (d p k : ℕ) → d ≤ 4 → 1 ≤ k → k < d → p % d ≡ (p + d - k) % d → ⊥
@@ -45,6 +52,7 @@ older_place (suc (suc (suc zero))) p k four some kept e = omega arith
 older_place (suc (suc (suc (suc zero)))) p k four some kept e = omega arith
 older_place (suc (suc (suc (suc (suc d))))) p k four some kept e = omega arith
 
+-- a slot is one of the four
 in_four : (d n : ℕ) → 1 ≤ d → d ≤ 4 → n % d < 4
 in_four zero n some four = omega arith
 in_four (suc zero) n some four = omega arith
@@ -54,6 +62,7 @@ in_four (suc (suc (suc (suc zero)))) n some four = omega arith
 in_four (suc (suc (suc (suc (suc d))))) n some four = omega arith
 
 module _ {T : Type 0} where
+  -- a value that is put into a slot stands there, and nothing else changes
   place-put : (r : Slots T) (n : ℕ) (x : T) → n < 4 → (put r n x).place ≡ r.place
   unfolding put
   place-put r zero x p = refl
@@ -104,32 +113,39 @@ module _ {T : Type 0} where
 
 -- the values, one by one
 module _ {T : Type 0} (d : ℕ) where
+  -- each value of a ring that was filled with one, the newest after a push, and those before it
   pub value-filled : (x : T) (k : ℕ) → 1 ≤ d → d ≤ 4 → value_back d (filled x) k ≡ x
   unfolding value_back
   value-filled x k some four = slot-filled ((0 + d - k) % d) x (in_four d (0 + d - k) some four)
 
   pub newest : (s : Slots T) (x : T) → 1 ≤ d → d ≤ 4 → value_back d (after_push d s x) 1 ≡ x
   unfolding value_back after_push slot
-  newest s x some four = ap (slot (put s (s.place % d) x)) (newest_place d s.place some four) ∙ slot-put_same s (s.place % d) x (in_four d s.place some four)
+  newest s x some four = ap (slot (put s (s.place % d) x)) (newest_place d s.place some four)
+      ∙ slot-put_same s (s.place % d) x (in_four d s.place some four)
 
-  later : (s : Slots T) (x : T) (k : ℕ) → d ≤ 4 → 1 ≤ k → k < d → value_back d (after_push d s x) (suc k) ≡ value_back d s k
+  later : (s : Slots T) (x : T) (k : ℕ) → d ≤ 4 → 1 ≤ k → k < d
+      → value_back d (after_push d s x) (suc k) ≡ value_back d s k
   unfolding value_back after_push slot
   later s x k four some kept =
       let one : 1 ≤ d = omega arith in
       ap (slot (put s (s.place % d) x)) (later_place d s.place k four some kept)
-      ∙ slot-put_other s (s.place % d) ((s.place + d - k) % d) x (in_four d s.place one four) (in_four d (s.place + d - k) one four) (older_place d s.place k four some kept)
+      ∙ slot-put_other s (s.place % d) ((s.place + d - k) % d) x (in_four d s.place one four)
+      (in_four d (s.place + d - k) one four) (older_place d s.place k four some kept)
 
-  pub older : (s : Slots T) (x : T) (k : ℕ) → d ≤ 4 → 1 < k → k ≤ d → value_back d (after_push d s x) k ≡ value_back d s (k - 1)
+  pub older : (s : Slots T) (x : T) (k : ℕ) → d ≤ 4 → 1 < k → k ≤ d
+      → value_back d (after_push d s x) k ≡ value_back d s (k - 1)
   older s x zero four some kept = absurd (omega arith)
   older s x (suc k) four some kept =
       let one : k ≡ suc k - 1 = omega arith in
       later s x k four (omega arith) (omega arith) ∙ ap (value_back d s) one
 
+  -- a value that is set back stands at its place, and the others stay
   pub here : (s : Slots T) (k : ℕ) (x : T) → 1 ≤ d → d ≤ 4 → value_back d (with_value_back d s k x) k ≡ x
   unfolding value_back with_value_back
   here s k x some four =
       let inside : (s.place + d - k) % d < 4 = in_four d (s.place + d - k) some four in
-      ap (λ p. slot (put s ((s.place + d - k) % d) x) ((p + d - k) % d)) (place-put s ((s.place + d - k) % d) x inside) ∙ slot-put_same s ((s.place + d - k) % d) x inside
+      ap (λ p. slot (put s ((s.place + d - k) % d) x) ((p + d - k) % d)) (place-put s ((s.place + d - k) % d) x inside)
+      ∙ slot-put_same s ((s.place + d - k) % d) x inside
 
   elsewhere : (s : Slots T) (k j : ℕ) (x : T) → d ≤ 4 → 1 ≤ d → ((s.place + d - k) % d ≡ (s.place + d - j) % d → ⊥)
       → value_back d (with_value_back d s k x) j ≡ value_back d s j
@@ -137,17 +153,22 @@ module _ {T : Type 0} (d : ℕ) where
   elsewhere s k j x four some apart =
       let inside : (s.place + d - k) % d < 4 = in_four d (s.place + d - k) some four in
       ap (λ p. slot (put s ((s.place + d - k) % d) x) ((p + d - j) % d)) (place-put s ((s.place + d - k) % d) x inside)
-      ∙ slot-put_other s ((s.place + d - k) % d) ((s.place + d - j) % d) x inside (in_four d (s.place + d - j) some four) apart
+      ∙ slot-put_other s ((s.place + d - k) % d) ((s.place + d - j) % d) x inside
+      (in_four d (s.place + d - j) some four) apart
 
-  pub others : (s : Slots T) (k j : ℕ) (x : T) → d ≤ 4 → 1 ≤ k → k ≤ d → 1 ≤ j → j ≤ d → (j ≡ k → ⊥) → value_back d (with_value_back d s k x) j ≡ value_back d s j
-  others s k j x four some kept first last apart = elsewhere s k j x four (omega arith) (places_apart d s.place j k four first last some kept apart)
+  pub others : (s : Slots T) (k j : ℕ) (x : T) → d ≤ 4 → 1 ≤ k → k ≤ d → 1 ≤ j → j ≤ d → (j ≡ k → ⊥)
+      → value_back d (with_value_back d s k x) j ≡ value_back d s j
+  others s k j x four some kept first last apart =
+      elsewhere s k j x four (omega arith) (places_apart d s.place j k four first last some kept apart)
 
 -- the lists of values
 module _ {T : Type 0} (d : ℕ) where
+  -- the same for lists of the values, newest first: filled, read, cut, pushed, and set back
   values-filled : (k n : ℕ) (x : T) → 1 ≤ d → d ≤ 4 → values_back d (filled x) k n ≡ replicate n x
   values-filled k zero x some four = refl
   values-filled k (suc n) x some four =
-      ap (λ y. y ∷ values_back d (filled x) (suc k) n) (value-filled d x k some four) ∙ ap (λ ys. x ∷ ys) (values-filled (suc k) n x some four)
+      ap (λ y. y ∷ values_back d (filled x) (suc k) n) (value-filled d x k some four)
+      ∙ ap (λ ys. x ∷ ys) (values-filled (suc k) n x some four)
 
   get-values : (s : Slots T) (j n i : ℕ) → i < n → slice_get (values_back d s j n) i ≡ Some (value_back d s (j + i))
   get-values s j zero i less = absurd (omega arith)
@@ -162,22 +183,27 @@ module _ {T : Type 0} (d : ℕ) where
   take-values s k (suc n) zero le = absurd (omega arith)
   take-values s k (suc n) (suc m) le = ap (λ ys. value_back d s k ∷ ys) (take-values s (suc k) n m (omega arith))
 
-  values-pushed : (s : Slots T) (x : T) (k n : ℕ) → d ≤ 4 → 1 ≤ k → k + n ≤ d → values_back d (after_push d s x) (suc k) n ≡ values_back d s k n
+  values-pushed : (s : Slots T) (x : T) (k n : ℕ) → d ≤ 4 → 1 ≤ k → k + n ≤ d
+      → values_back d (after_push d s x) (suc k) n ≡ values_back d s k n
   values-pushed s x k zero four some kept = refl
   values-pushed s x k (suc n) four some kept =
       ap (λ y. y ∷ values_back d (after_push d s x) (suc (suc k)) n) (later d s x k four some (omega arith))
       ∙ ap (λ ys. value_back d s k ∷ ys) (values-pushed s x (suc k) n four (omega arith) (omega arith))
 
-  values-pushed_all : (s : Slots T) (x : T) (n : ℕ) → 1 ≤ n → d ≤ 4 → n ≡ d → values_back d (after_push d s x) 1 n ≡ take n (x ∷ values_back d s 1 n)
+  values-pushed_all : (s : Slots T) (x : T) (n : ℕ) → 1 ≤ n → d ≤ 4 → n ≡ d
+      → values_back d (after_push d s x) 1 n ≡ take n (x ∷ values_back d s 1 n)
   values-pushed_all s x zero some four e = absurd (omega arith)
   values-pushed_all s x (suc n) some four e =
       ap (λ y. y ∷ values_back d (after_push d s x) 2 n) (newest d s x (omega arith) four)
-      ∙ ap (λ ys. x ∷ ys) (values-pushed s x 1 n four (omega arith) (omega arith) ∙ sym (take-values s 1 n (suc n) (omega arith)))
+      ∙ ap (λ ys. x ∷ ys) (values-pushed s x 1 n four (omega arith) (omega arith)
+      ∙ sym (take-values s 1 n (suc n) (omega arith)))
 
-  values-behind : (s : Slots T) (k : ℕ) (x : T) (j n : ℕ) → d ≤ 4 → 1 ≤ k → k < j → j + n ≤ suc d → values_back d (with_value_back d s k x) j n ≡ values_back d s j n
+  values-behind : (s : Slots T) (k : ℕ) (x : T) (j n : ℕ) → d ≤ 4 → 1 ≤ k → k < j → j + n ≤ suc d
+      → values_back d (with_value_back d s k x) j n ≡ values_back d s j n
   values-behind s k x j zero four some less kept = refl
   values-behind s k x j (suc n) four some less kept =
-      ap (λ y. y ∷ values_back d (with_value_back d s k x) (suc j) n) (others d s k j x four some (omega arith) (omega arith) (omega arith) (λ same. omega arith))
+      ap (λ y. y ∷ values_back d (with_value_back d s k x) (suc j) n)
+      (others d s k j x four some (omega arith) (omega arith) (omega arith) (λ same. omega arith))
       ∙ ap (λ ys. value_back d s j ∷ ys) (values-behind s k x (suc j) n four some (omega arith) (omega arith))
 
   values-with_back : (s : Slots T) (k : ℕ) (x : T) (j n i : ℕ) → d ≤ 4 → 1 ≤ j → j + i ≡ k → k < j + n → j + n ≤ suc d
@@ -189,11 +215,14 @@ module _ {T : Type 0} (d : ℕ) where
       (ap (λ y. y ∷ values_back d (with_value_back d s k x) (suc k) n) (here d s k x (omega arith) four)
       ∙ ap (λ ys. x ∷ ys) (values-behind s k x (suc k) n four (omega arith) (omega arith) (omega arith)))
   values-with_back s k x j (suc n) (suc i) four some e less kept =
-      ap (λ y. y ∷ values_back d (with_value_back d s k x) (suc j) n) (others d s k j x four (omega arith) (omega arith) some (omega arith) (λ same. omega arith))
-      ∙ ap (λ ys. value_back d s j ∷ ys) (values-with_back s k x (suc j) n i four (omega arith) (omega arith) (omega arith) (omega arith))
+      ap (λ y. y ∷ values_back d (with_value_back d s k x) (suc j) n)
+      (others d s k j x four (omega arith) (omega arith) some (omega arith) (λ same. omega arith))
+      ∙ ap (λ ys. value_back d s j ∷ ys)
+      (values-with_back s k x (suc j) n i four (omega arith) (omega arith) (omega arith) (omega arith))
 
 -- the ring
 module _ {T : Type 0} (d : ℕ) where
+  -- what a ring has: at first one value, after a push that one in front, and after a change the value changed
   pub recent-fresh : (x : T) → 1 ≤ d → d ≤ 4 → recent {d = d} (fresh x) ≡ replicate d x
   unfolding recent
   recent-fresh x some four = values-filled d 1 d x some four
@@ -202,9 +231,11 @@ module _ {T : Type 0} (d : ℕ) where
   unfolding recent
   recent-pushed r x some four = values-pushed_all d r.slots x d some four refl
 
-  pub recent-with_back : (r : Ring T d) (k : ℕ) (x : T) → d ≤ 4 → 1 ≤ k → k ≤ d → recent (with_back r k x) ≡ slice_set (recent r) (k - 1) x
+  pub recent-with_back : (r : Ring T d) (k : ℕ) (x : T) → d ≤ 4 → 1 ≤ k → k ≤ d
+      → recent (with_back r k x) ≡ slice_set (recent r) (k - 1) x
   unfolding recent
-  recent-with_back r k x four some kept = values-with_back d r.slots k x 1 d (k - 1) four (omega arith) (omega arith) (omega arith) (omega arith)
+  recent-with_back r k x four some kept =
+      values-with_back d r.slots k x 1 d (k - 1) four (omega arith) (omega arith) (omega arith) (omega arith)
 
   pub get-recent : (r : Ring T d) (k : ℕ) → 1 ≤ k → k ≤ d → slice_get (recent r) (k - 1) ≡ Some (back_of r k)
   unfolding recent
@@ -213,11 +244,13 @@ module _ {T : Type 0} (d : ℕ) where
       get-values d r.slots 1 d (k - 1) (omega arith) ∙ ap (λ j. Some (value_back d r.slots j)) e
 
   -- the value of the k-th push before now
-  pub law : (first : T) (xs : List T) (k : ℕ) → d ≤ 4 → 1 ≤ k → k ≤ d → back_of {d = d} (after_pushes (fresh first) xs) k ≡ slice_index_or xs (k - 1) first
+  pub law : (first : T) (xs : List T) (k : ℕ) → d ≤ 4 → 1 ≤ k → k ≤ d
+      → back_of {d = d} (after_pushes (fresh first) xs) k ≡ slice_index_or xs (k - 1) first
   unfolding after_pushes
   law first [] k four some kept = value-filled d first k (omega arith) four
   law first (x ∷ xs) zero four some kept = absurd (omega arith)
-  law first (x ∷ xs) (suc zero) four some kept = newest d (after_pushes {d = d} (fresh first) xs).slots x (omega arith) four
+  law first (x ∷ xs) (suc zero) four some kept =
+      newest d (after_pushes {d = d} (fresh first) xs).slots x (omega arith) four
   law first (x ∷ xs) (suc (suc k)) four some kept =
       let one : suc k - 1 ≡ k = omega arith in
       let two : suc (suc k) - 1 ≡ suc k = omega arith in

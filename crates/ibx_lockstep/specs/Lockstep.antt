@@ -1,9 +1,12 @@
--- Two cores of which the shadow is d cycles behind main, for every core and every d from 1 on, and what its comparator notices.
+-- Two cores of which the shadow is d cycles behind main, for every core and every d from 1 on, and what its comparator
+-- notices.
 -- Our own rule, as in the lockstep of dual cores with a delayed checker.
-use Rattle.std.specs.Prelude.{◌≡◌, ℕ, zero, suc, ◌+◌, ◌-◌, min, Bool, true, false, not, ◌&&◌, nat_le, if◌then◌else◌, List, [], ◌∷◌, ◌++◌, length, map, take, drop, replicate, Option, Some, None}
+use Rattle.std.specs.Prelude.{◌≡◌, ℕ, zero, suc, ◌+◌, ◌-◌, min, Bool, true, false, not, ◌&&◌, nat_le, if◌then◌else◌}
+use Rattle.std.specs.Prelude.{List, [], ◌∷◌, ◌++◌, length, map, take, drop, replicate, Option, Some, None}
 use Rattle.std.specs.List.{list_any, zip}
 
--- main and its shadow; the last d inputs, each with main's output for it, the oldest first; and the cycles since the start, up to d
+-- main and its shadow; the last d inputs, each with main's output for it, the oldest first; and the cycles since the
+-- start, up to d
 pub record Lockstep (S I O : Type 0) : Type 0 where
   pub main : S
   pub shadow : S
@@ -21,12 +24,13 @@ module _ {S I O : Type 0} where
   followed leaves s [] = s
   followed leaves s (x ∷ xs) = leaves s x.0
 
-  -- a difference is told where the age is at least d, and the shadow's output for the oldest input isn't the same as the oldest output
+  -- a difference is told where the age is at least d, and the shadow's output for the oldest input isn't the same as
+  -- the oldest output
   abbrev pub is_told_after : ℕ → (S → I → O) → (O → O → Bool) → Lockstep S I O → Bool
   is_told_after d gives agree p = nat_le d p.age && differs gives agree p.shadow p.delayed
 
-  -- after a cycle with main's input i and its output o: main has moved by i, the shadow by the oldest input where the age is at least
-  -- d, the oldest pair is gone, i and o are the newest, and the age has risen by one up to d
+  -- after a cycle with main's input i and its output o: main has moved by i, the shadow by the oldest input where the
+  -- age is at least d, the oldest pair is gone, i and o are the newest, and the age has risen by one up to d
   abbrev pub stepped_after : ℕ → (S → I → S) → Lockstep S I O → I → O → Lockstep S I O
   stepped_after d leaves p i o = record {
     main = leaves p.main i;
@@ -87,15 +91,17 @@ module _ {S I O : Type 0} (d : ℕ) (gives : S → I → O) (leaves : S → I �
   findings agree p [] = []
   findings agree p (t ∷ ts) = is_told_after d gives agree (replaced p t.0) ∷ findings agree (after_turn p t) ts
 
-  -- Whatever is put in main's place, and when: the first d cycles tell nothing, and each later one tells a difference exactly where
-  -- main's output of d cycles before isn't the same as that of a core that started equal, was never replaced, and had the same inputs.
+  -- Whatever is put in main's place, and when: the first d cycles tell nothing, and each later one tells a difference
+  -- exactly where main's output of d cycles before isn't the same as that of a core that started equal, was never
+  -- replaced, and had the same inputs.
   abbrev pub TellsLater : (O → O → Bool) → Lockstep S I O → Type 0
   TellsLater agree p =
       (turns : List (Option S × I))
-      → findings agree p turns ≡ take (length turns) (replicate d false ++ differences agree (outputs_alone gives leaves p.main (inputs turns)) (outputs p turns))
+      → findings agree p turns ≡ take (length turns)
+      (replicate d false ++ differences agree (outputs_alone gives leaves p.main (inputs turns)) (outputs p turns))
 
-  -- Whatever is put in main's place, and when: where no difference is told up to d cycles after a cycle, main's outputs up to it are
-  -- the same as those of a core that started equal, was never replaced, and had the same inputs.
+  -- Whatever is put in main's place, and when: where no difference is told up to d cycles after a cycle, main's
+  -- outputs up to it are the same as those of a core that started equal, was never replaced, and had the same inputs.
   abbrev pub Notices : (O → O → Bool) → Lockstep S I O → Type 0
   Notices agree p =
       (turns : List (Option S × I)) → IsSilent (findings agree p turns)
@@ -108,8 +114,11 @@ module _ {S I O : Type 0} (d : ℕ) (gives : S → I → O) (leaves : S → I �
   -- main's outputs, where the shadow, the delayed pairs and the age may be changed before each cycle
   abbrev pub outputs_disturbed : Lockstep S I O → List (Option (S × List (I × O) × ℕ) × I) → List O
   outputs_disturbed p [] = []
-  outputs_disturbed p (t ∷ ts) = gives p.main t.1 ∷ outputs_disturbed (stepped_after d leaves (disturbed p t.0) t.1 (gives p.main t.1)) ts
+  outputs_disturbed p (t ∷ ts) =
+      gives p.main t.1 ∷ outputs_disturbed (stepped_after d leaves (disturbed p t.0) t.1 (gives p.main t.1)) ts
 
-  -- Whatever is put in place of the shadow, the delayed pairs and the age, and when, main's outputs are those of a core that runs alone.
+  -- Whatever is put in place of the shadow, the delayed pairs and the age, and when, main's outputs are those of a
+  -- core that runs alone.
   abbrev pub KeepsMain : Lockstep S I O → Type 0
-  KeepsMain p = (turns : List (Option (S × List (I × O) × ℕ) × I)) → outputs_disturbed p turns ≡ outputs_alone gives leaves p.main (inputs turns)
+  KeepsMain p = (turns : List (Option (S × List (I × O) × ℕ) × I))
+      → outputs_disturbed p turns ≡ outputs_alone gives leaves p.main (inputs turns)

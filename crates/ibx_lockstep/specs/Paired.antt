@@ -1,5 +1,5 @@
--- A pair of cores whose shadow is two cycles behind: its parts, what it tells, and what a cycle leaves. Our own rule, as in the
--- lockstep of dual cores with a delayed checker.
+-- A pair of cores whose shadow is two cycles behind: its parts, what it tells, and what a cycle leaves. Our own rule,
+-- as in the lockstep of dual cores with a delayed checker.
 use Rattle.std.specs.Prelude.{ℕ, ◌+◌, min, Bool, not, ◌&&◌, ◌==◌, nat_le, if◌then◌else◌, [], ◌∷◌}
 use Rattle.ibx_lockstep.specs.Lockstep.{Lockstep}
 
@@ -12,12 +12,14 @@ pub record Paired (S I O : Type 0) : Type 0 where
   pub age : ℕ
 
 module _ {S I O : Type 0} where
-  -- a difference is told where the age is at least two, and the shadow's output for the older input isn't the same as the older output
+  -- a difference is told where the age is at least two, and the shadow's output for the older input isn't the same as
+  -- the older output
   unfoldable pub is_told : (S → I → O) → (O → O → Bool) → Paired S I O → Bool
   is_told gives agree p = nat_le 2 p.age && not (agree (gives p.shadow p.older.0) p.older.1)
 
-  -- after a cycle with main's input i and its output o: main has moved by i, the shadow by the older input where the age is at least
-  -- two, the newer pair has become the older, i and o are the newer, and the age has risen by one up to two
+  -- after a cycle with main's input i and its output o: main has moved by i, the shadow by the older input where the
+  -- age is at least two, the newer pair has become the older, i and o are the newer, and the age has risen by one up
+  -- to two
   unfoldable pub stepped : (S → I → S) → Paired S I O → I → O → Paired S I O
   stepped leaves p i o = record {
     main = leaves p.main i;

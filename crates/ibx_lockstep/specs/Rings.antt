@@ -11,7 +11,8 @@ module _ {T : Type 0} where
   -- the slots with another value in one of them
   unfoldable pub put : Slots T → ℕ → T → Slots T
   put s n x =
-      if n == 0 then record s { first = x } else if n == 1 then record s { second = x } else if n == 2 then record s { third = x } else record s { fourth = x }
+      if n == 0 then record s { first = x } else if n == 1 then record s { second = x } else if n == 2
+      then record s { third = x } else record s { fourth = x }
 
   -- the slots with one value in all of them
   abbrev pub filled : T → Slots T

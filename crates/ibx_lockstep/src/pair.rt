@@ -10,11 +10,11 @@ use crate::core_step::CoreStep;
 use crate::ring::Ring;
 use crate::slots::Slots;
 
-/// The cycles by which the shadow is behind main.
+// The cycles by which the shadow is behind main.
 const DELAY: u8 = 2;
 
-/// The same as the depth of the rings. They are reached by their slots: a call at the type `Ring<C::In, DEPTH>` itself
-/// would owe a bound on the size of the wires, and a core gives none.
+// The same as the depth of the rings. They are reached by their slots: a call at the type `Ring<C::In, DEPTH>` itself
+// would owe a bound on the size of the wires, and a core gives none.
 const DEPTH: usize = 2;
 
 /// Main and its shadow, with main's inputs and outputs of the last two cycles.
@@ -24,7 +24,7 @@ pub struct Pair<C: CoreStep> {
     shadow: C,
     inputs: Ring<C::In, DEPTH>,
     outputs: Ring<C::Out, DEPTH>,
-    /// The cycles since `new`, up to the delay. A greater value acts as the delay.
+    // The cycles since `new`, up to the delay. A greater value acts as the delay.
     age: u8,
 }
 
@@ -134,7 +134,7 @@ impl<C: CoreStep> Pair<C> {
         told
     }
 
-    /// Compares the shadow's output for the older input with the older output, once the shadow moves.
+    // Compares the shadow's output for the older input with the older output, once the shadow moves.
     #[tactic(auto, unfolding(crate::specs::Paired::is_told))]
     fn told(&self) -> bool
         ensures { result ≡ is_told C.gives C.agree (seen self.now) }
@@ -144,7 +144,7 @@ impl<C: CoreStep> Pair<C> {
         self.age >= DELAY && !C::same(&self.shadow.out(&input), &output)
     }
 
-    /// Moves the shadow by the older input, where two cycles have gone by.
+    // Moves the shadow by the older input, where two cycles have gone by.
     fn follow(&mut self)
         ensures { self.new ≡ record self.old { shadow = (if nat_le 2 self.old.age then C.leaves self.old.shadow (back_of self.old.inputs 2) else self.old.shadow) } }
     {

@@ -9,7 +9,11 @@ fn ring_of_two(rt: HostRuntime) {
     assert_eq!(rt; (ring.back(1), ring.back(2)), (9, 9));
     for (x, newest, older) in [(5, 5, 9), (6, 6, 5), (7, 7, 6)] {
         ring.push(x);
-        assert_eq!(rt; (ring.back(1), ring.back(2)), (newest, older));
+        assert_eq!(rt;
+            (ring.back(1), ring.back(2)),
+            (newest, older),
+            "at the push of {x}"
+        );
     }
     ring.set_back(2, 4);
     assert_eq!(rt; (ring.back(1), ring.back(2)), (7, 4));
@@ -29,7 +33,8 @@ fn ring_of_four(rt: HostRuntime) {
         ring.push(x);
         assert_eq!(rt;
             [ring.back(1), ring.back(2), ring.back(3), ring.back(4)],
-            backs
+            backs,
+            "at the push of {x}"
         );
     }
     ring.set_back(3, 0);
@@ -39,7 +44,7 @@ fn ring_of_four(rt: HostRuntime) {
     );
 }
 
-/// A core that puts out how far it has counted, and counts on by its input.
+// A core that puts out how far it has counted, and counts on by its input.
 #[derive(Clone, Copy)]
 struct Counter {
     count: u8,
@@ -97,9 +102,9 @@ fn told_two_cycles_later(rt: HostRuntime) {
         if i == 4 {
             pair.main_mut().count = 17;
         }
-        assert_eq!(rt; pair.main().count, output);
-        assert_eq!(rt; pair.age(), age);
-        assert_eq!(rt; turn(&mut pair, i), told, "at {i}");
+        assert_eq!(rt; pair.main().count, output, "at cycle {i}");
+        assert_eq!(rt; pair.age(), age, "at cycle {i}");
+        assert_eq!(rt; turn(&mut pair, i), told, "at cycle {i}");
     }
 }
 
@@ -107,7 +112,7 @@ fn told_two_cycles_later(rt: HostRuntime) {
 fn silent_without_a_change(rt: HostRuntime) {
     let mut pair = counters();
     for i in [7, 0, 250, 1, 9, 3] {
-        assert!(rt; !turn(&mut pair, i));
+        assert!(rt; !turn(&mut pair, i), "at the input {i}");
     }
 }
 
@@ -116,7 +121,7 @@ fn silent_without_a_change(rt: HostRuntime) {
 fn told_of_the_observer(rt: HostRuntime) {
     let mut pair = counters();
     for i in [1, 2, 3] {
-        assert!(rt; !turn(&mut pair, i));
+        assert!(rt; !turn(&mut pair, i), "at the input {i}");
     }
     assert_eq!(rt; (pair.delay(0), pair.delay(1)), ((2, 11), (3, 13)));
     pair.set_delay(1, 3, 14);

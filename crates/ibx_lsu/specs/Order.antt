@@ -1,5 +1,6 @@
--- The order of an access on the bus, over its whole run: its first portion is asked for from the cycle in which it enters until the
--- grant, its second from the cycle after the first answer. It ends at its last answer, or at the first that is bad. Our own rule.
+-- The order of an access on the bus, over its whole run: its first portion is asked for from the cycle in which it
+-- enters until the grant, its second from the cycle after the first answer. It ends at its last answer, or at the
+-- first that is bad. Our own rule.
 use Rattle.std.specs.Prelude.{◌≡◌, ℕ, zero, suc, ◌+◌, ◌<◌, ◌≤◌, Bool, true, false}
 use Rattle.ibx_isa.specs.declared.event.Access.{Access}
 use Rattle.ibx_isa.specs.declared.bus.Rsp.{Rsp}
@@ -20,6 +21,7 @@ unfoldable pub fields_at : Lsu → Access → Bus → ℕ → Lsu
 fields_at u want bus zero = u
 fields_at u want bus (suc n) = next_of (fields_at u want bus n) want (bus.rsp n) (bus.granted n)
 
+-- what the unit drives in cycle n, and what the access comes to
 abbrev pub turn_in : Lsu → Access → Bus → ℕ → LsTurn
 turn_in u want bus n = turn_of (fields_at u want bus n) want (bus.rsp n)
 
@@ -46,6 +48,7 @@ pub record EndsAt (u : Lsu) (want : Access) (bus : Bus) (c : ℕ) (outcome : LsT
   pub comes : turn_in u want bus c ≡ outcome
   pub idle : fields_at u want bus (c + 1) ≡ idle_of
 
+-- the 32 bits of data of the answer in a cycle
 abbrev pub word_at : Bus → ℕ → ℕ
 word_at bus c = payload_of 32 (bus.rsp c).word
 
@@ -53,7 +56,8 @@ word_at bus c = payload_of 32 (bus.rsp c).word
 pub record AwaitsFirst (u : Lsu) (want : Access) (bus : Bus) (c : ℕ) : Type 0 where
   pub silent : reply_of (bus.rsp c) ≡ Silent → turn_in u want bus c ≡ awaits
   pub bad : reply_of (bus.rsp c) ≡ Bad → EndsAt u want bus c (faults 1)
-  pub whole : reply_of (bus.rsp c) ≡ Good → crosses want ≡ false → EndsAt u want bus c (gives want.store (word_at bus c) 0)
+  pub whole : reply_of (bus.rsp c) ≡ Good → crosses want ≡ false
+      → EndsAt u want bus c (gives want.store (word_at bus c) 0)
   pub more : reply_of (bus.rsp c) ≡ Good → crosses want ≡ true → turn_in u want bus c ≡ awaits
 
 -- a cycle in which the second portion's answer is awaited; the first portion's came at `past`
@@ -66,5 +70,7 @@ pub record AwaitsSecond (u : Lsu) (want : Access) (bus : Bus) (past c : ℕ) : T
 pub record KeepsOrder (u : Lsu) (want : Access) (bus : Bus) : Type 0 where
   pub asks_first : (c : ℕ) → IsUngranted bus 0 c → turn_in u want bus c ≡ asks (request_of (encode_of 32 7) want false)
   pub awaits_first : (grant c : ℕ) → IsUnanswered bus 0 grant c → AwaitsFirst u want bus c
-  pub asks_second : (grant past c : ℕ) → HasMore want bus grant past → IsUngranted bus (past + 1) c → turn_in u want bus c ≡ asks (request_of (encode_of 32 7) want true)
-  pub awaits_second : (grant past other c : ℕ) → HasMore want bus grant past → IsUnanswered bus (past + 1) other c → AwaitsSecond u want bus past c
+  pub asks_second : (grant past c : ℕ) → HasMore want bus grant past → IsUngranted bus (past + 1) c
+      → turn_in u want bus c ≡ asks (request_of (encode_of 32 7) want true)
+  pub awaits_second : (grant past other c : ℕ) → HasMore want bus grant past → IsUnanswered bus (past + 1) other c
+      → AwaitsSecond u want bus past c

@@ -34,7 +34,7 @@ pub struct LsTurn {
     pub second: u32,
 }
 
-/// What a cycle of an access is about.
+// What a cycle of an access is about.
 #[derive(Clone, Copy)]
 enum Stage {
     AskFirst,
@@ -43,7 +43,7 @@ enum Stage {
     AwaitSecond,
 }
 
-/// What the bus answers in a cycle.
+// What the bus answers in a cycle.
 #[derive(Clone, Copy)]
 enum Reply {
     Silent,

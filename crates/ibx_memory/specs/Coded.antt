@@ -9,4 +9,5 @@ use Rattle.ibx_arch.specs.Memory.{Memory, read_bytes}
 pub record HoldsMemory (ram : Ram) (m : MemoryState) (memory : Memory) : Type 0 where
   pub base : m.base ≡ ram.base
   pub size : 4 * length m.words ≡ ram.size
-  pub words : (i : ℕ) → i < length m.words → slice_index m.words i ≡ encode_of 32 7 (read_bytes memory (ram.base + 4 * i) 4)
+  pub words : (i : ℕ) → i < length m.words
+      → slice_index m.words i ≡ encode_of 32 7 (read_bytes memory (ram.base + 4 * i) 4)

@@ -1,5 +1,6 @@
 -- Memory as its words.
-use Rattle.std.specs.Prelude.{ℕ, ◌+◌, ◌-◌, ◌*◌, ◌/◌, ◌%◌, ◌^◌, ◌<◌, ◌≡◌, List, length, slice_index, Bool, true, false, ◌==◌, if◌then◌else◌}
+use Rattle.std.specs.Prelude.{ℕ, ◌+◌, ◌-◌, ◌*◌, ◌/◌, ◌%◌, ◌^◌, ◌<◌, ◌≡◌, List, length, slice_index, Bool, true, false}
+use Rattle.std.specs.Prelude.{◌==◌, if◌then◌else◌}
 use Rattle.std.specs.Int.{bit_at}
 use Rattle.ibx_elf.specs.declared.ram.Ram.{Ram}
 use Rattle.ibx_elf.specs.Ram.{ram_has, IsRamRange}
@@ -30,6 +31,7 @@ abbrev pub portion_from : ℕ → ℕ → Bool → ℕ
 portion_from addr size false = 0
 portion_from addr size true = portion_size addr size false
 
+-- the number past the last byte of a portion
 abbrev pub portion_to : ℕ → ℕ → Bool → ℕ
 portion_to addr size false = portion_size addr size false
 portion_to addr size true = size

@@ -5,6 +5,9 @@ ghost use Rattle.std.specs.Prelude.{◌≡◌, ◌<◌, ◌≤◌, ◌^◌, Some
 ghost use Rattle.std.specs.Char.{digit_value, is_digit};
 ghost use Rattle.ibx_number.specs.Number.{value_in, short_value, number_of};
 
+#[cfg(test)]
+mod tests;
+
 fn digit(byte: u8, base: u32) -> Option<u64>
     requires low { 2 ≤ base }
     requires high { base ≤ 36 }
@@ -52,37 +55,5 @@ pub fn number(word: &[u8]) -> Option<u64>
         short_value(&word[2..], 16, 8)
     } else {
         short_value(word, 10, 10)
-    }
-}
-
-#[cfg(test)]
-mod tests {
-    use super::*;
-
-    #[test]
-    fn reads_numbers(rt: HostRuntime) {
-        let rows = [
-            ("0", Some(0)),
-            ("0000000012", Some(12)),
-            ("9999999999", Some(9_999_999_999)),
-            ("0x0", Some(0)),
-            ("0xffffffff", Some(4_294_967_295)),
-            ("0x00aBcDeF", Some(11_259_375)),
-            ("", None),
-            ("00000000001", None),
-            ("0x", None),
-            ("0x000000001", None),
-            ("0X1", None),
-            ("0x1g", None),
-            ("x1", None),
-            ("12a", None),
-            ("-1", None),
-            ("+1", None),
-            ("1_000", None),
-            (" 1", None),
-        ];
-        for (word, value) in rows {
-            assert_eq!(rt; number(word.as_bytes()), value, "at {word}");
-        }
     }
 }

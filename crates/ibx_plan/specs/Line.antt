@@ -1,5 +1,6 @@
 -- What one line of a plan says: our own format.
-use Rattle.std.specs.Prelude.{ℕ, Bool, ◌==◌, ◌&&◌, ◌||◌, nat_eq, nat_lt, nat_le, List, [], ◌∷◌, length, codes, Option, Some, None, is_some, unwrap_or, Result, Ok, Err, bit_and, if◌then◌else◌}
+use Rattle.std.specs.Prelude.{ℕ, Bool, ◌==◌, ◌&&◌, ◌||◌, nat_eq, nat_lt, nat_le, List, [], ◌∷◌, length, codes, Option}
+use Rattle.std.specs.Prelude.{Some, None, is_some, unwrap_or, Result, Ok, Err, bit_and, if◌then◌else◌}
 use Rattle.std.specs.List.{find, list_all, starts_with}
 use Rattle.std.specs.Option.{option_map, option_and_then}
 use Rattle.std.specs.Str.{bytes_eq}
@@ -49,9 +50,11 @@ named kind.Output ws = option_map target.Output (number_named outputs (word ws 3
 named kind.Answer ws = Some target.Answer
 named kind.Mem ws = Some target.Mem
 
+-- the row of a flip by the name of what it flips: its kind, and how many words its line has
 abbrev pub flip_row : List ℕ → Option (Kind × ℕ)
 flip_row name = option_map (λ r. (r.1, r.2)) (find (λ r. bytes_eq name r.0) flip_rows)
 
+-- the site that a flip's line names, where it has as many words as that kind wants
 unfoldable pub target_of : List (List ℕ) → Option Target
 target_of ws = option_and_then (λ r. if length ws == r.1 then named r.0 ws else None) (flip_row (word ws 2))
 
@@ -73,6 +76,7 @@ site_places (target.Output wire) = 4 ∷ []
 site_places target.Answer = 3 ∷ 4 ∷ []
 site_places target.Mem = 3 ∷ 4 ∷ []
 
+-- of a wait and a change the two words behind the first, and of a flip its cycle and the numbers of its site
 unfoldable pub number_places : Row → List ℕ
 number_places row.Iwait = 1 ∷ 2 ∷ []
 number_places row.Dwait = 1 ∷ 2 ∷ []
@@ -110,15 +114,19 @@ entry_of (row.Flip place) at = entry.Flip (record { cycle = at 1; site = site_of
 unfoldable pub entry_fits : Bounds → Entry → Bool
 entry_fits bounds (entry.Iwait wait) = nat_le wait.grant 255 && nat_le wait.answer 255
 entry_fits bounds (entry.Dwait wait) = nat_le wait.grant 255 && nat_le wait.answer 255
-entry_fits bounds (entry.Irq change) = nat_le change.cycle 1000000000 && (bit_and change.mask interrupt_lines == change.mask)
+entry_fits bounds (entry.Irq change) =
+    nat_le change.cycle 1000000000 && (bit_and change.mask interrupt_lines == change.mask)
 entry_fits bounds (entry.Flip flip) = nat_lt flip.cycle bounds.cycles && site_fits bounds.ram_words flip.site
 
+-- an entry all of whose numbers are in range, or that fault
 abbrev pub in_range : Bounds → Entry → Result Entry LineKind
 in_range bounds e = if entry_fits bounds e then Ok e else Err fault.Range
 
+-- the entry of a row: an unknown row, a word that is no number, and a number out of range are its faults in that order
 unfoldable pub row_entry : Bounds → List (List ℕ) → Option Row → Result Entry LineKind
 row_entry bounds ws None = Err fault.Word
-row_entry bounds ws (Some r) = if are_numbers ws (number_places r) then in_range bounds (entry_of r (number_at ws)) else Err fault.Number
+row_entry bounds ws (Some r) =
+    if are_numbers ws (number_places r) then in_range bounds (entry_of r (number_at ws)) else Err fault.Number
 
 -- the entry of a line with these words, or the first fault that it has: a word, a number, a range
 abbrev pub line_entry : Bounds → List (List ℕ) → Result Entry LineKind

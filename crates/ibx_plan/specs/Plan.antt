@@ -1,5 +1,6 @@
 -- What a plan holds, and what a text says of it: our own format.
-use Rattle.std.specs.Prelude.{◌≡◌, ℕ, ◌+◌, ◌-◌, ◌<◌, Bool, true, ◌&&◌, IsTrue, nat_lt, nat_le, List, [], ◌∷◌, ◌++◌, length, reverse, Option, Some, None, is_none, Result, Ok, Err, slice_get, if◌then◌else◌}
+use Rattle.std.specs.Prelude.{◌≡◌, ℕ, ◌+◌, ◌-◌, ◌<◌, Bool, true, ◌&&◌, IsTrue, nat_lt, nat_le, List, [], ◌∷◌, ◌++◌}
+use Rattle.std.specs.Prelude.{length, reverse, Option, Some, None, is_none, Result, Ok, Err, slice_get, if◌then◌else◌}
 use Rattle.std.specs.List.{find, filter_map}
 use Rattle.std.specs.Option.{option_map_or, option_to_list}
 use Rattle.std.specs.Result.{result_ok}
@@ -25,6 +26,7 @@ pub record PlanValue : Type 0 where
   pub changes : List Change
   pub flip : Option Flip
 
+-- no waits, no changes and no flip
 abbrev pub empty_plan : PlanValue
 empty_plan = record { iwaits = []; dwaits = []; changes = []; flip = None }
 
@@ -47,12 +49,15 @@ appended entries e line = if nat_lt (length entries) 65536 then Ok (entries ++ e
 
 -- whether a change comes after the last one so far
 abbrev pub follows : List Change → Change → Bool
-follows changes change = option_map_or (λ last. nat_lt last.cycle change.cycle) (slice_get changes (length changes - 1)) true
+follows changes change =
+    option_map_or (λ last. nat_lt last.cycle change.cycle) (slice_get changes (length changes - 1)) true
 
 -- the plan with the entry of the line of this number
 unfoldable pub plan_with_entry : Bounds → ℕ → PlanValue → Entry → Result PlanValue PlanFault
-plan_with_entry bounds line plan (entry.Iwait wait) = and_then (appended plan.iwaits wait line) (λ more. Ok (record plan { iwaits = more }))
-plan_with_entry bounds line plan (entry.Dwait wait) = and_then (appended plan.dwaits wait line) (λ more. Ok (record plan { dwaits = more }))
+plan_with_entry bounds line plan (entry.Iwait wait) =
+    and_then (appended plan.iwaits wait line) (λ more. Ok (record plan { iwaits = more }))
+plan_with_entry bounds line plan (entry.Dwait wait) =
+    and_then (appended plan.dwaits wait line) (λ more. Ok (record plan { dwaits = more }))
 plan_with_entry bounds line plan (entry.Irq change) = if follows plan.changes change
     then and_then (appended plan.changes change line) (λ more. Ok (record plan { changes = more }))
     else Err (fault.Line line kind.Order)
@@ -60,18 +65,21 @@ plan_with_entry bounds line plan (entry.Flip flip) = if nat_lt 0 bounds.flips &&
     then Ok (record plan { flip = Some flip })
     else Err (fault.Line line kind.Flip)
 
+-- the plan with what a line says, where that is an entry, or the line's fault
 abbrev pub with_said : Bounds → ℕ → PlanValue → Result Entry LineKind → Result PlanValue PlanFault
 with_said bounds line plan (Ok e) = plan_with_entry bounds line plan e
 with_said bounds line plan (Err k) = Err (fault.Line line k)
 
 -- the plan with the line of this number
 unfoldable pub with_line : Bounds → ℕ → PlanValue → List ℕ → Result PlanValue PlanFault
-with_line bounds line plan text = if is_skipped (words text) then Ok plan else with_said bounds line plan (line_entry bounds (words text))
+with_line bounds line plan text =
+    if is_skipped (words text) then Ok plan else with_said bounds line plan (line_entry bounds (words text))
 
 -- the plan with the lines from this number on: the first that is refused decides
 unfoldable pub with_lines : Bounds → ℕ → PlanValue → List (List ℕ) → Result PlanValue PlanFault
 with_lines bounds line plan [] = Ok plan
-with_lines bounds line plan (text ∷ more) = and_then (with_line bounds line plan text) (λ next. with_lines bounds (line + 1) next more)
+with_lines bounds line plan (text ∷ more) =
+    and_then (with_line bounds line plan text) (λ next. with_lines bounds (line + 1) next more)
 
 -- a plan is to have the flip that the run takes
 abbrev pub with_flip : Bounds → PlanValue → Result PlanValue PlanFault
@@ -89,6 +97,8 @@ said bounds text = if is_skipped (words text) then None else result_ok (line_ent
 abbrev pub entries_of : Bounds → List ℕ → List Entry
 entries_of bounds text = filter_map (said bounds) (lines text)
 
+-- what an entry says of one list alone: a wait of the instruction port, of the data port, a change of the interrupt
+-- lines, and the flip
 abbrev pub iwait_of : Entry → Option Wait
 iwait_of (entry.Iwait wait) = Some wait
 iwait_of _ = None

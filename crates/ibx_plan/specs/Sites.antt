@@ -11,6 +11,7 @@ pub record Ranged : Type 0 where
   pub first : ℕ
   pub end : ℕ
 
+-- a number with the range that it is to be in, from its first number up to the one past its last
 abbrev pub ranged : ℕ → ℕ → ℕ → Ranged
 ranged number first end = record { number = number; first = first; end = end }
 
@@ -25,7 +26,8 @@ ranges ram_words (site.Shadow field bit) = ranged bit 0 (width_in fields field) 
 ranges ram_words (site.Delay slot wire bit) = ranged slot 0 (slots wire) ∷ ranged bit 0 (width_in wires wire) ∷ []
 ranges ram_words (site.Reg n bit) = ranged n 1 32 ∷ ranged bit 0 39 ∷ []
 ranges ram_words (site.Tag set way bit) = ranged set 0 256 ∷ ranged way 0 2 ∷ ranged bit 0 28 ∷ []
-ranges ram_words (site.Line set way half bit) = ranged set 0 256 ∷ ranged way 0 2 ∷ ranged half 0 2 ∷ ranged bit 0 39 ∷ []
+ranges ram_words (site.Line set way half bit) =
+    ranged set 0 256 ∷ ranged way 0 2 ∷ ranged half 0 2 ∷ ranged bit 0 39 ∷ []
 ranges ram_words (site.Output wire bit) = ranged bit 0 (width_in outputs wire) ∷ []
 ranges ram_words (site.Answer port bit) = ranged port 0 2 ∷ ranged bit 0 39 ∷ []
 ranges ram_words (site.Mem word bit) = ranged word 0 ram_words ∷ ranged bit 0 39 ∷ []

@@ -148,7 +148,12 @@ fn refused() -> &'static [(&'static str, u32, PlanFault)] {
 #[test]
 fn refused_texts(rt: HostRuntime) -> Result<(), Fail> {
     for row in refused() {
-        assert_eq!(rt; fault(rt.alloc(), row.0, row.1), Some(row.2), "{:?}", row.0);
+        assert_eq!(rt;
+            fault(rt.alloc(), row.0, row.1),
+            Some(row.2),
+            "at {:?}",
+            row.0
+        );
     }
     let most = repeated(rt.alloc(), "iwait 0 0\n", 65_536)?;
     assert_eq!(rt; fault(rt.alloc(), most.as_str(), 0), None);
@@ -255,8 +260,12 @@ fn accepted_texts(rt: HostRuntime) -> Result<(), Fail> {
             cycle: 999,
             site: row.1,
         };
-        assert!(rt; accepted_flip(rt.alloc(), row.0) == Some(flip), "{}", row.0);
-        assert!(rt; row.1.fits(262_144), "{}", row.0);
+        assert!(rt;
+            accepted_flip(rt.alloc(), row.0) == Some(flip),
+            "at {}",
+            row.0
+        );
+        assert!(rt; row.1.fits(262_144), "at {}", row.0);
     }
     let plan = lists(rt.alloc()).ok_or("refused")?;
     let iwaits = [
@@ -276,7 +285,7 @@ fn accepted_texts(rt: HostRuntime) -> Result<(), Fail> {
     assert!(rt; plan.iwaits() == iwaits.as_slice());
     assert!(rt; plan.dwaits() == dwaits.as_slice());
     for row in line_rows() {
-        assert_eq!(rt; plan.lines(row.0), row.1);
+        assert_eq!(rt; plan.lines(row.0), row.1, "at cycle {}", row.0);
     }
     assert!(rt; plan.flip().is_none());
     Ok(())
@@ -320,8 +329,13 @@ fn full_rows() -> &'static [(u64, u32)] {
 fn lines_of_a_full_list(rt: HostRuntime) -> Result<(), Fail> {
     let plan = full(rt.alloc()).ok_or("refused")?;
     for row in full_rows() {
-        assert_eq!(rt; plan.lines(row.0), row.1);
-        assert_eq!(rt; counted::<Brand>(&plan, row.0, Blank::new(1)), row.1);
+        assert_eq!(rt; plan.lines(row.0), row.1, "at cycle {}", row.0);
+        assert_eq!(rt;
+            counted::<Brand>(&plan, row.0, Blank::new(1)),
+            row.1,
+            "at cycle {}",
+            row.0
+        );
     }
     Ok(())
 }
@@ -350,9 +364,9 @@ fn field_rows() -> &'static [(&'static str, u8, u8)] {
 #[test]
 fn fields_by_name(rt: HostRuntime) {
     for row in field_rows() {
-        assert_eq!(rt; field_named(row.0), Some(row.1), "{}", row.0);
+        assert_eq!(rt; field_named(row.0), Some(row.1), "at {}", row.0);
         assert!(rt; row.1 < FIELDS);
-        assert_eq!(rt; width(row.1), row.2, "{}", row.0);
+        assert_eq!(rt; width(row.1), row.2, "at {}", row.0);
     }
     assert_eq!(rt; field_named("pmpaddr16"), None);
     assert_eq!(rt; field_named(""), None);

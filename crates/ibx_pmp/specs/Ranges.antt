@@ -1,6 +1,7 @@
 -- Physical memory protection (RISC-V Privileged ISA 1.12, 3.7.1). An entry is a configuration byte and an
 -- address register, which holds bits 33:2 of a byte address.
-use Rattle.std.specs.Prelude.{ℕ, ◌+◌, ◌*◌, ◌/◌, ◌%◌, ◌^◌, Bool, false, not, ◌&&◌, ◌||◌, List, [], ◌∷◌, Option, Some, None, bit_and, ◌==◌, nat_lt, nat_le, if◌then◌else◌, max, min, find}
+use Rattle.std.specs.Prelude.{ℕ, ◌+◌, ◌*◌, ◌/◌, ◌%◌, ◌^◌, Bool, false, not, ◌&&◌, ◌||◌, List, [], ◌∷◌, Option, Some}
+use Rattle.std.specs.Prelude.{None, bit_and, ◌==◌, nat_lt, nat_le, if◌then◌else◌, max, min, find}
 use Rattle.std.specs.Int.{w32, trailing_ones}
 use Rattle.ibx_pmp.specs.declared.protection.AccessKind.{AccessKind}
 use Rattle.ibx_pmp.specs.declared.protection.AccessKind.TheVariants.{Read, Write, Execute}
@@ -60,7 +61,8 @@ by_entry None x n kind machine = machine
 -- Whether n bytes from x on may be accessed: the first entry that has one of them decides. The arguments
 -- are the configuration bytes and the addresses of the entries, x, n, the kind, and whether the mode is M.
 unfoldable pub allowed : List ℕ → List ℕ → ℕ → ℕ → AccessKind → Bool → Bool
-allowed cfgs addrs x n kind machine = by_entry (find (λ e. meets e.bytes x n) (entries_after 0 cfgs addrs)) x n kind machine
+allowed cfgs addrs x n kind machine =
+    by_entry (find (λ e. meets e.bytes x n) (entries_after 0 cfgs addrs)) x n kind machine
 
 -- whether the four bytes of a word are among an entry's, as word numbers tell it
 unfoldable pub has_word : ℕ → ℕ → ℕ → ℕ → Bool

@@ -2,5 +2,7 @@
 #![tactic(auto)]
 
 mod protection;
+#[cfg(test)]
+mod tests;
 
 pub use protection::{AccessKind, PmpRegs, allow};

@@ -77,6 +77,3 @@ fn covers_word(cfg: u8, lower: u32, upper: u32, word: u32) -> bool
         }
     }
 }
-
-#[cfg(test)]
-mod tests;

@@ -1,5 +1,6 @@
 -- Memory over a cycle by the writes of an item: with none of them in it, and with one.
-use Rattle.std.proofs.Common.{◌≡◌, ◌≢◌, ℕ, ◌+◌, ◌<◌, ◌≤◌, Bool, true, false, List, [], ◌∷◌, refl, sym, ap, ◌∙◌, inl, inr, arith, Option, Some, None}
+use Rattle.std.proofs.Common.{◌≡◌, ◌≢◌, ℕ, ◌+◌, ◌<◌, ◌≤◌, Bool, true, false, List, [], ◌∷◌, refl, sym, ap, ◌∙◌, inl}
+use Rattle.std.proofs.Common.{inr, arith, Option, Some, None}
 use Rattle.std.proofs.lemmas.Bool.{cases_lt, lt-ltb, le-ltb}
 use Rattle.ibx_plan.specs.declared.site.Wait.{Wait}
 use Rattle.ibx_bus.specs.PortTimes.{answer_time, grant_time}
@@ -11,77 +12,105 @@ use Rattle.ibx_time.specs.Times.{portion_grant}
 use Rattle.ibx_time.specs.Memories.{Write, memory_at, write_of, writes_with, written_by}
 use Rattle.ibx_staging.proofs.PortsMemory.{memory_with}
 
+-- memory in the next cycle is as in this one
 abbrev pub Stays : Memory → List Write → ℕ → Type 0
 Stays memory ws c = memory_at memory ws (c + 1) ≡ memory_at memory ws c
 
 -- ---- one write
 
+-- memory with one write made
 abbrev pub written : Memory → Write → Memory
 written m w = with_bytes m w.addr w.from w.to w.value
 
-skip_write : (memory : Memory) (w : Write) (ws : List Write) (c : ℕ) → c ≤ w.time → memory_at memory (w ∷ ws) c ≡ memory_at memory ws c
+-- a write shows from the cycle after its own on
+skip_write : (memory : Memory) (w : Write) (ws : List Write) (c : ℕ) → c ≤ w.time
+    → memory_at memory (w ∷ ws) c ≡ memory_at memory ws c
 unfolding memory_at
 skip_write memory w ws c h = rw (le-ltb w.time c h) refl
 
-pub take_write : (memory : Memory) (w : Write) (ws : List Write) (c : ℕ) → w.time < c → memory_at memory (w ∷ ws) c ≡ written (memory_at memory ws c) w
+pub take_write : (memory : Memory) (w : Write) (ws : List Write) (c : ℕ) → w.time < c
+    → memory_at memory (w ∷ ws) c ≡ written (memory_at memory ws c) w
 unfolding memory_at
 take_write memory w ws c h = rw (lt-ltb w.time c h) refl
 
-pub same_write : (memory : Memory) (w : Write) (ws : List Write) (c : ℕ) → w.time ≢ c → Stays memory ws c → Stays memory (w ∷ ws) c
+-- so a write in another cycle changes nothing in this one, and one in this cycle is made
+pub same_write : (memory : Memory) (w : Write) (ws : List Write) (c : ℕ) → w.time ≢ c → Stays memory ws c
+    → Stays memory (w ∷ ws) c
 same_write memory w ws c ne stays =
     elim (cases_lt w.time c) [
-      | inl past ↦ take_write memory w ws (c + 1) (omega arith) ∙ ap (λ m. written m w) stays ∙ sym (take_write memory w ws c past)
+      | inl past ↦ take_write memory w ws (c + 1) (omega arith) ∙ ap (λ m. written m w) stays
+          ∙ sym (take_write memory w ws c past)
       | inr late ↦ skip_write memory w ws (c + 1) (omega (arith, ne)) ∙ stays ∙ sym (skip_write memory w ws c late)
     ]
 
-now_write : (memory : Memory) (w : Write) (ws : List Write) (c : ℕ) → w.time ≡ c → Stays memory ws c → memory_at memory (w ∷ ws) (c + 1) ≡ written (memory_at memory (w ∷ ws) c) w
+now_write : (memory : Memory) (w : Write) (ws : List Write) (c : ℕ) → w.time ≡ c → Stays memory ws c
+    → memory_at memory (w ∷ ws) (c + 1) ≡ written (memory_at memory (w ∷ ws) c) w
 now_write memory w ws c now stays =
-    take_write memory w ws (c + 1) (omega arith) ∙ ap (λ m. written m w) (stays ∙ sym (skip_write memory w ws c (omega arith)))
+    take_write memory w ws (c + 1) (omega arith)
+    ∙ ap (λ m. written m w) (stays ∙ sym (skip_write memory w ws c (omega arith)))
 
 -- a later write doesn't show
-late_write : (memory : Memory) (v w : Write) (ws : List Write) (c : ℕ) → c < v.time → memory_at memory ws (c + 1) ≡ written (memory_at memory ws c) w
+late_write : (memory : Memory) (v w : Write) (ws : List Write) (c : ℕ) → c < v.time
+    → memory_at memory ws (c + 1) ≡ written (memory_at memory ws c) w
     → memory_at memory (v ∷ ws) (c + 1) ≡ written (memory_at memory (v ∷ ws) c) w
 late_write memory v w ws c late h =
-    skip_write memory v ws (c + 1) (omega arith) ∙ h ∙ ap (λ m. written m w) (sym (skip_write memory v ws c (omega arith)))
+    skip_write memory v ws (c + 1) (omega arith) ∙ h
+    ∙ ap (λ m. written m w) (sym (skip_write memory v ws c (omega arith)))
 
 -- ---- the writes of two portions
 
-none_written : (memory : Memory) (portions : Portions) (st : Bool) (first second : Write) (ws : List Write) (c : ℕ) → first.time ≢ c → second.time ≢ c → Stays memory ws c
-    → Stays memory (written_by portions st first second ws) c
+-- neither is in this cycle, the first is, or the second is
+none_written : (memory : Memory) (portions : Portions) (st : Bool) (first second : Write) (ws : List Write) (c : ℕ)
+    → first.time ≢ c → second.time ≢ c → Stays memory ws c → Stays memory (written_by portions st first second ws) c
 unfolding written_by
 none_written memory portions false first second ws c a b k = k
 none_written memory NoPortion true first second ws c a b k = k
 none_written memory One true first second ws c a b k = same_write memory first ws c a k
 none_written memory OneBad true first second ws c a b k = same_write memory first ws c a k
-none_written memory Two true first second ws c a b k = same_write memory second (first ∷ ws) c b (same_write memory first ws c a k)
-none_written memory TwoBad true first second ws c a b k = same_write memory second (first ∷ ws) c b (same_write memory first ws c a k)
+none_written memory Two true first second ws c a b k =
+    same_write memory second (first ∷ ws) c b (same_write memory first ws c a k)
+none_written memory TwoBad true first second ws c a b k =
+    same_write memory second (first ∷ ws) c b (same_write memory first ws c a k)
 
-first_written : (memory : Memory) (portions : Portions) (first second : Write) (ws : List Write) (c : ℕ) → reaches portions false ≡ true → first.time ≡ c → c < second.time → Stays memory ws c
-    → memory_at memory (written_by portions true first second ws) (c + 1) ≡ written (memory_at memory (written_by portions true first second ws) c) first
+first_written : (memory : Memory) (portions : Portions) (first second : Write) (ws : List Write) (c : ℕ)
+    → reaches portions false ≡ true → first.time ≡ c → c < second.time → Stays memory ws c
+    → memory_at memory (written_by portions true first second ws) (c + 1)
+    ≡ written (memory_at memory (written_by portions true first second ws) c) first
 unfolding written_by
 first_written memory NoPortion first second ws c r a b k = let no_ : false ≡ true = r in cc
 first_written memory One first second ws c r a b k = now_write memory first ws c a k
 first_written memory OneBad first second ws c r a b k = now_write memory first ws c a k
-first_written memory Two first second ws c r a b k = late_write memory second first (first ∷ ws) c b (now_write memory first ws c a k)
-first_written memory TwoBad first second ws c r a b k = late_write memory second first (first ∷ ws) c b (now_write memory first ws c a k)
+first_written memory Two first second ws c r a b k =
+    late_write memory second first (first ∷ ws) c b (now_write memory first ws c a k)
+first_written memory TwoBad first second ws c r a b k =
+    late_write memory second first (first ∷ ws) c b (now_write memory first ws c a k)
 
-second_written : (memory : Memory) (portions : Portions) (first second : Write) (ws : List Write) (c : ℕ) → reaches portions true ≡ true → first.time ≢ c → second.time ≡ c → Stays memory ws c
-    → memory_at memory (written_by portions true first second ws) (c + 1) ≡ written (memory_at memory (written_by portions true first second ws) c) second
+second_written : (memory : Memory) (portions : Portions) (first second : Write) (ws : List Write) (c : ℕ)
+    → reaches portions true ≡ true → first.time ≢ c → second.time ≡ c → Stays memory ws c
+    → memory_at memory (written_by portions true first second ws) (c + 1)
+    ≡ written (memory_at memory (written_by portions true first second ws) c) second
 unfolding written_by
 second_written memory NoPortion first second ws c r a b k = let no_ : false ≡ true = r in cc
 second_written memory One first second ws c r a b k = let no_ : false ≡ true = r in cc
 second_written memory OneBad first second ws c r a b k = let no_ : false ≡ true = r in cc
-second_written memory Two first second ws c r a b k = now_write memory second (first ∷ ws) c b (same_write memory first ws c a k)
-second_written memory TwoBad first second ws c r a b k = now_write memory second (first ∷ ws) c b (same_write memory first ws c a k)
+second_written memory Two first second ws c r a b k =
+    now_write memory second (first ∷ ws) c b (same_write memory first ws c a k)
+second_written memory TwoBad first second ws c r a b k =
+    now_write memory second (first ∷ ws) c b (same_write memory first ws c a k)
 
 -- ---- the writes of an item
 
-pub item_stays : (memory : Memory) (waits : List Wait) (n e : ℕ) (portions : Portions) (a : Option Access) (ws : List Write) (c : ℕ)
-    → portion_grant waits n e false ≢ c → portion_grant waits n e true ≢ c → Stays memory ws c → Stays memory (writes_with waits n e portions a ws) c
+-- an item whose portions are granted in other cycles leaves memory, and so does one without any
+pub item_stays : (memory : Memory) (waits : List Wait) (n e : ℕ) (portions : Portions) (a : Option Access)
+    (ws : List Write) (c : ℕ)
+    → portion_grant waits n e false ≢ c → portion_grant waits n e true ≢ c → Stays memory ws c
+    → Stays memory (writes_with waits n e portions a ws) c
 item_stays memory waits n e portions None ws c x y k = k
-item_stays memory waits n e portions (Some a) ws c x y k = none_written memory portions a.store (write_of waits n e a false) (write_of waits n e a true) ws c x y k
+item_stays memory waits n e portions (Some a) ws c x y k =
+    none_written memory portions a.store (write_of waits n e a false) (write_of waits n e a true) ws c x y k
 
-pub no_writes : (memory : Memory) (waits : List Wait) (n e : ℕ) (a : Option Access) (ws : List Write) (c : ℕ) → Stays memory ws c → Stays memory (writes_with waits n e NoPortion a ws) c
+pub no_writes : (memory : Memory) (waits : List Wait) (n e : ℕ) (a : Option Access) (ws : List Write) (c : ℕ)
+    → Stays memory ws c → Stays memory (writes_with waits n e NoPortion a ws) c
 unfolding written_by
 no_writes memory waits n e None ws c k = k
 no_writes memory waits n e (Some a) ws c k = by a.store (write_of waits n e a false) (write_of waits n e a true)
@@ -91,22 +120,31 @@ no_writes memory waits n e (Some a) ws c k = by a.store (write_of waits n e a fa
     by true first second = k
 
 -- a load writes nothing
-pub load_writes : (waits : List Wait) (n e : ℕ) (portions : Portions) (a : Access) (ws : List Write) → a.store ≡ false → writes_with waits n e portions (Some a) ws ≡ ws
+pub load_writes : (waits : List Wait) (n e : ℕ) (portions : Portions) (a : Access) (ws : List Write) → a.store ≡ false
+    → writes_with waits n e portions (Some a) ws ≡ ws
 unfolding written_by
-load_writes waits n e portions a ws h = ap (λ st. written_by portions st (write_of waits n e a false) (write_of waits n e a true) ws) h
+load_writes waits n e portions a ws h =
+    ap (λ st. written_by portions st (write_of waits n e a false) (write_of waits n e a true) ws) h
 
 -- the portion of a store that is granted in cycle c
-pub portion_written : (memory : Memory) (waits : List Wait) (n e : ℕ) (portions : Portions) (a : Access) (b : Bool) (ws : List Write) (c : ℕ) → reaches portions b ≡ true → a.store ≡ true → portion_grant waits n e b ≡ c → Stays memory ws c
-    → memory_at memory (writes_with waits n e portions (Some a) ws) (c + 1) ≡ memory_with (memory_at memory (writes_with waits n e portions (Some a) ws) c) a b
+pub portion_written : (memory : Memory) (waits : List Wait) (n e : ℕ) (portions : Portions) (a : Access) (b : Bool)
+    (ws : List Write) (c : ℕ) → reaches portions b ≡ true → a.store ≡ true → portion_grant waits n e b ≡ c
+    → Stays memory ws c → memory_at memory (writes_with waits n e portions (Some a) ws) (c + 1)
+    ≡ memory_with (memory_at memory (writes_with waits n e portions (Some a) ws) c) a b
 unfolding answer_time grant_time
 portion_written memory waits n e portions a false ws c r st now k =
-    ap (λ v. memory_at memory (written_by portions v (write_of waits n e a false) (write_of waits n e a true) ws) (c + 1)) st
+    ap (λ v. memory_at memory (written_by portions v (write_of waits n e a false) (write_of waits n e a true) ws)
+    (c + 1)) st
     ∙ first_written memory portions (write_of waits n e a false) (write_of waits n e a true) ws c r now (omega arith) k
-    ∙ sym (ap (λ v. memory_with (memory_at memory (written_by portions v (write_of waits n e a false) (write_of waits n e a true) ws) c) a false) st)
+    ∙ sym (ap (λ v. memory_with (memory_at memory
+    (written_by portions v (write_of waits n e a false) (write_of waits n e a true) ws) c) a false) st)
 portion_written memory waits n e portions a true ws c r st now k =
-    ap (λ v. memory_at memory (written_by portions v (write_of waits n e a false) (write_of waits n e a true) ws) (c + 1)) st
-    ∙ second_written memory portions (write_of waits n e a false) (write_of waits n e a true) ws c r (λ h. absurd (omega arith)) now k
-    ∙ sym (ap (λ v. memory_with (memory_at memory (written_by portions v (write_of waits n e a false) (write_of waits n e a true) ws) c) a true) st)
+    ap (λ v. memory_at memory (written_by portions v (write_of waits n e a false) (write_of waits n e a true) ws)
+    (c + 1)) st
+    ∙ second_written memory portions (write_of waits n e a false) (write_of waits n e a true) ws c r
+    (λ h. absurd (omega arith)) now k
+    ∙ sym (ap (λ v. memory_with (memory_at memory
+    (written_by portions v (write_of waits n e a false) (write_of waits n e a true) ws) c) a true) st)
 
 -- only RAM is in every memory over time
 pub memory_ram : (memory : Memory) (ws : List Write) (c : ℕ) → (memory_at memory ws c).ram ≡ memory.ram

@@ -28,7 +28,8 @@ prepared_from (Instruction word length) = decoded_word word length (instruction_
 unfoldable pub carried_out : State → ℕ → ℕ → Prepared → Stepped
 carried_out s cycle lines (Refused addr) = finished s.pc s.regs cycle 0 None (trap s fetch_fault addr 0)
 carried_out s cycle lines (Illegal word) = finished s.pc s.regs cycle word None (illegal s word)
-carried_out s cycle lines (Legal insn word length) = finished s.pc s.regs cycle word (operands s insn) (execute s insn word length lines)
+carried_out s cycle lines (Legal insn word length) =
+    finished s.pc s.regs cycle word (operands s insn) (execute s insn word length lines)
 
 -- a WFI that isn't illegal, and so waits for an interrupt
 abbrev pub is_wait_of : CsrValues → Prepared → Bool

@@ -8,8 +8,8 @@ use ibx_csr::is_control_at;
 use ibx_isa::{CsrOp, writes, written};
 use ibx_trap::leave;
 
-/// A CSR instruction: the operation, the register that takes the old value, the source field and the source's
-/// value, and the CSR's address.
+// A CSR instruction: the operation, the register that takes the old value, the source field and the source's
+// value, and the CSR's address.
 #[derive(Clone, Copy)]
 pub(crate) struct CsrAccess {
     pub op: CsrOp,

@@ -12,7 +12,7 @@ use ibx_decoder::instruction;
 use ibx_isa::{Insn, is_long};
 use ibx_pmp::{AccessKind, PmpRegs, allow};
 
-/// What was fetched, decoded.
+// What was fetched, decoded.
 #[derive(Clone, Copy)]
 pub(crate) enum Prepared {
     /// The parcel at this byte address can't be executed.

@@ -1,4 +1,5 @@
--- What a run comes to: the steps of the architecture from reset on. The budget and the halting store are our own rules.
+-- What a run comes to: the steps of the architecture from reset on. The budget and the halting store are our own
+-- rules.
 use Rattle.std.specs.Prelude.{ℕ, zero, suc, ◌+◌, ◌%◌, Bool, true, false, ◌&&◌, ◌==◌, List, [], ◌∷◌, Option, Some, None}
 use Rattle.ibx_bits.specs.Platform.{halt_register}
 use Rattle.ibx_isa.specs.declared.event.Access.{Access}
@@ -26,6 +27,7 @@ halts (Retire cycle pc word rd value mem ctl ops) = is_halting mem
 halts (Trap cycle pc word cause tval addr) = false
 halts (Irq cycle pc cause) = false
 
+-- a story that ends before its first event
 abbrev pub no_events : StoryEnd → Story
 no_events ending = record { events = []; ending = ending }
 

@@ -1,8 +1,10 @@
 -- Runs with the cache, computed.
 use Rattle.std.specs.Prelude.{[], ◌∷◌, refl, ℕ, ◌≡◌, Bool, true, false, List, map, max}
 use Rattle.ibx_elf.specs.Image.{image_byte}
-use Rattle.ibx_time.proofs.Runs.{Example, AllAgree, Retired, Wrote, Stored, Trapped, at, placed, program, no_plan, wait, lines, runs}
-use Rattle.ibx_time.specs.History.{brought_parcels, words_there, admission, item_at, access_at, taken, continued, event_at, told, up_to_halt}
+use Rattle.ibx_time.proofs.Runs.{Example, AllAgree, Retired, Wrote, Stored, Trapped, at, placed, program, no_plan}
+use Rattle.ibx_time.proofs.Runs.{wait, lines, runs}
+use Rattle.ibx_time.specs.History.{brought_parcels, words_there, admission, item_at, access_at, taken, continued}
+use Rattle.ibx_time.specs.History.{event_at, told, up_to_halt}
 use Rattle.ibx_time.specs.Timeline.{words_for, admission_for, item_for, times_for, cycles_from}
 use Rattle.ibx_time.specs.BusLines.{wires_at, bus_line}
 use Rattle.ibx_time.specs.Chains.{story_after}
@@ -11,7 +13,8 @@ use Rattle.ibx_time.specs.Dummies.{dummy_cost}
 use Rattle.ibx_dummy.specs.Dummies.{dummy_word}
 use Rattle.ibx_time.specs.Items.{retired_item, item_of, dummy_item}
 use Rattle.ibx_time.specs.Memories.{memory_at, written_by, sent_by}
-use Rattle.ibx_time.specs.Requests.{enabled_at, is_walked, is_cached, none_between, last_fill, is_present, found_slot, victim, fill_grant, request_by, Past, Fill, Switch, after_request, nothing_past}
+use Rattle.ibx_time.specs.Requests.{enabled_at, is_walked, is_cached, none_between, last_fill, is_present, found_slot}
+use Rattle.ibx_time.specs.Requests.{victim, fill_grant, request_by, Past, Fill, Switch, after_request, nothing_past}
 use Rattle.ibx_time.specs.Search.{first_from}
 use Rattle.ibx_time.specs.Shown.{shown_of}
 use Rattle.ibx_time.specs.Streams.{gate, past, issue, words, last_of, redirected}
@@ -27,7 +30,8 @@ use Rattle.ibx_isa.specs.Cost.{md_cost_of}
 use Rattle.ibx_isa.specs.Multiply.{md_value}
 use Rattle.ibx_isa.specs.Views.{view_of}
 use Rattle.ibx_csr.specs.Table.{csr_of}
-use Rattle.ibx_csr.specs.Values.{csr_reset, value_of, csr_read, put_value, csr_can_write, csr_write, csr_tick, counters_after, with_trap_regs}
+use Rattle.ibx_csr.specs.Values.{csr_reset, value_of, csr_read, put_value, csr_can_write, csr_write, csr_tick}
+use Rattle.ibx_csr.specs.Values.{counters_after, with_trap_regs}
 use Rattle.ibx_trap.specs.Interrupts.{pending_of}
 use Rattle.ibx_trap.specs.Traps.{enter_of, enter_target, leave_of}
 use Rattle.ibx_pmp.specs.Ranges.{allowed}
@@ -42,7 +46,8 @@ use Rattle.ibx_time.specs.Settings.{settings_of}
 -- the cache is on: a miss, a hit, and a miss of the next line
 abbrev cache_on : Example
 cache_on = record {
-  setup = runs (program (0x30446073 ∷ 0x7c00e073 ∷ 0x10500073 ∷ 0x0040006f ∷ 0x00020337 ∷ 0x00100393 ∷ 0x00732423 ∷ [])) (record no_plan { changes = lines 300 8 ∷ [] });
+  setup = runs (program (0x30446073 ∷ 0x7c00e073 ∷ 0x10500073 ∷ 0x0040006f ∷ 0x00020337 ∷ 0x00100393 ∷ 0x00732423
+      ∷ [])) (record no_plan { changes = lines 300 8 ∷ [] });
   limit = 315;
   lines =
       Retired 2 0x00100080 0x30446073
@@ -58,7 +63,8 @@ cache_on = record {
 -- the same with the cache off
 abbrev cache_off : Example
 cache_off = record {
-  setup = runs (program (0x30446073 ∷ 0x00000013 ∷ 0x10500073 ∷ 0x0040006f ∷ 0x00020337 ∷ 0x00100393 ∷ 0x00732423 ∷ [])) (record no_plan { changes = lines 300 8 ∷ [] });
+  setup = runs (program (0x30446073 ∷ 0x00000013 ∷ 0x10500073 ∷ 0x0040006f ∷ 0x00020337 ∷ 0x00100393 ∷ 0x00732423
+      ∷ [])) (record no_plan { changes = lines 300 8 ∷ [] });
   limit = 310;
   lines =
       Retired 2 0x00100080 0x30446073
@@ -74,7 +80,10 @@ cache_off = record {
 -- the way of a full set that gives way is the other one than that of the last fill of all sets
 abbrev victims : Example
 victims = record {
-  setup = runs (placed (at 0x00100080 (0x30446073 ∷ 0x7c00e073 ∷ 0x10500073 ∷ 0x7750006f ∷ []) ∷ at 0x00101000 (0x0010006f ∷ 0x0010006f ∷ []) ∷ at 0x00101010 (0x7f10006f ∷ 0x00000013 ∷ []) ∷ at 0x00101800 (0x811ff06f ∷ 0x00000013 ∷ []) ∷ at 0x00102000 (0x804ff06f ∷ 0x00000013 ∷ []) ∷ [])) (record no_plan { changes = lines 258 8 ∷ [] });
+  setup = runs (placed (at 0x00100080 (0x30446073 ∷ 0x7c00e073 ∷ 0x10500073 ∷ 0x7750006f ∷ [])
+      ∷ at 0x00101000 (0x0010006f ∷ 0x0010006f ∷ []) ∷ at 0x00101010 (0x7f10006f ∷ 0x00000013 ∷ [])
+      ∷ at 0x00101800 (0x811ff06f ∷ 0x00000013 ∷ []) ∷ at 0x00102000 (0x804ff06f ∷ 0x00000013 ∷ []) ∷ []))
+      (record no_plan { changes = lines 258 8 ∷ [] });
   limit = 310;
   lines =
       Retired 2 0x00100080 0x30446073
@@ -96,7 +105,11 @@ victims = record {
 -- the first cached request is that of cycle 256
 abbrev walk : Example
 walk = record {
-  setup = runs (program (0x30446073 ∷ 0x7c00e073 ∷ 0x10500073 ∷ 0x00000013 ∷ 0x00000013 ∷ 0x00000013 ∷ 0x00000013 ∷ 0x00000013 ∷ 0x00000013 ∷ 0x00000013 ∷ 0x00000013 ∷ 0x00000013 ∷ [])) (record no_plan { changes = lines 254 8 ∷ [] });
+  setup = runs (program (0x30446073 ∷ 0x7c00e073 ∷ 0x10500073 ∷ 0x00000013 ∷ 0x00000013 ∷ 0x00000013 ∷ 0x00000013
+      ∷ 0x00000013 ∷ 0x00000013 ∷ 0x00000013 ∷ 0x00000013 ∷ 0x00000013 ∷ [])) (record no_plan {
+        changes =
+            lines 254 8 ∷ [];
+      });
   limit = 275;
   lines =
       Retired 2 0x00100080 0x30446073
@@ -117,7 +130,11 @@ walk = record {
 -- the cache on, off, and on
 abbrev switched : Example
 switched = record {
-  setup = runs (program (0x30446073 ∷ 0x10500073 ∷ 0x7c00e073 ∷ 0x00000013 ∷ 0x00000013 ∷ 0x7c00f073 ∷ 0x00000013 ∷ 0x00000013 ∷ 0x7c00e073 ∷ 0x00000013 ∷ 0x00000013 ∷ 0x00000013 ∷ [])) (record no_plan { changes = lines 258 8 ∷ [] });
+  setup = runs (program (0x30446073 ∷ 0x10500073 ∷ 0x7c00e073 ∷ 0x00000013 ∷ 0x00000013 ∷ 0x7c00f073 ∷ 0x00000013
+      ∷ 0x00000013 ∷ 0x7c00e073 ∷ 0x00000013 ∷ 0x00000013 ∷ 0x00000013 ∷ [])) (record no_plan {
+        changes =
+            lines 258 8 ∷ [];
+      });
   limit = 290;
   lines =
       Retired 2 0x00100080 0x30446073
@@ -140,7 +157,12 @@ switched = record {
 -- FENCE.I while a line is read: the next request waits for the line
 abbrev fence_in_fill : Example
 fence_in_fill = record {
-  setup = runs (program (0x30446073 ∷ 0x7c00e073 ∷ 0x10500073 ∷ 0x00000013 ∷ 0x0000100f ∷ 0x00134285 ∷ 0x00130000 ∷ 0x03370000 ∷ 0x03930002 ∷ 0x24230010 ∷ 0x00000073 ∷ [])) (record no_plan { iwaits = wait 0 0 ∷ wait 1 4 ∷ []; changes = lines 258 8 ∷ [] });
+  setup = runs (program (0x30446073 ∷ 0x7c00e073 ∷ 0x10500073 ∷ 0x00000013 ∷ 0x0000100f ∷ 0x00134285 ∷ 0x00130000
+      ∷ 0x03370000 ∷ 0x03930002 ∷ 0x24230010 ∷ 0x00000073 ∷ [])) (record no_plan {
+        iwaits =
+            wait 0 0 ∷ wait 1 4 ∷ [];
+        changes = lines 258 8 ∷ [];
+      });
   limit = 300;
   lines =
       Retired 2 0x00100080 0x30446073
@@ -160,7 +182,12 @@ fence_in_fill = record {
 -- a jump while a line is read: its target waits for the line
 abbrev miss_in_flight : Example
 miss_in_flight = record {
-  setup = runs (program (0x30446073 ∷ 0x7c00e073 ∷ 0x10500073 ∷ 0x00000013 ∷ 0x0140006f ∷ 0x00000013 ∷ 0x00000013 ∷ 0x00000013 ∷ 0x00000013 ∷ 0x00020337 ∷ 0x00100393 ∷ 0x00732423 ∷ [])) (record no_plan { iwaits = wait 0 1 ∷ []; changes = lines 258 8 ∷ [] });
+  setup = runs (program (0x30446073 ∷ 0x7c00e073 ∷ 0x10500073 ∷ 0x00000013 ∷ 0x0140006f ∷ 0x00000013 ∷ 0x00000013
+      ∷ 0x00000013 ∷ 0x00000013 ∷ 0x00020337 ∷ 0x00100393 ∷ 0x00732423 ∷ [])) (record no_plan {
+        iwaits =
+            wait 0 1 ∷ [];
+        changes = lines 258 8 ∷ [];
+      });
   limit = 300;
   lines =
       Retired 3 0x00100080 0x30446073
@@ -177,7 +204,12 @@ miss_in_flight = record {
 -- a store does not reach a line that is kept, before a FENCE.I
 abbrev stale_line : Example
 stale_line = record {
-  setup = runs (placed (at 0x00100080 (0x30446073 ∷ 0x7c00e073 ∷ 0x10500073 ∷ 0x00101437 ∷ 0x000400e7 ∷ 0x010284b7 ∷ 0x29348493 ∷ 0x00942023 ∷ 0x000400e7 ∷ 0x0000100f ∷ 0x000400e7 ∷ 0x00020337 ∷ 0x00100393 ∷ 0x00732423 ∷ []) ∷ at 0x00101000 (0x00128293 ∷ 0x00008067 ∷ []) ∷ [])) (record no_plan { changes = lines 258 8 ∷ [] });
+  setup = runs (placed (at 0x00100080
+      (0x30446073 ∷ 0x7c00e073 ∷ 0x10500073 ∷ 0x00101437 ∷ 0x000400e7 ∷ 0x010284b7 ∷ 0x29348493 ∷ 0x00942023
+      ∷ 0x000400e7
+      ∷ 0x0000100f ∷ 0x000400e7 ∷ 0x00020337 ∷ 0x00100393 ∷ 0x00732423 ∷ [])
+      ∷ at 0x00101000 (0x00128293 ∷ 0x00008067 ∷ [])
+      ∷ [])) (record no_plan { changes = lines 258 8 ∷ [] });
   limit = 330;
   lines =
       Retired 2 0x00100080 0x30446073
@@ -206,7 +238,8 @@ stale_line = record {
 -- the host page is cached too, and its words are 0
 abbrev host_page : Example
 host_page = record {
-  setup = runs (program (0x30446073 ∷ 0x7c00e073 ∷ 0x10500073 ∷ 0x000202b7 ∷ 0x10028067 ∷ [])) (record no_plan { changes = lines 258 8 ∷ [] });
+  setup = runs (program (0x30446073 ∷ 0x7c00e073 ∷ 0x10500073 ∷ 0x000202b7 ∷ 0x10028067 ∷ []))
+      (record no_plan { changes = lines 258 8 ∷ [] });
   limit = 290;
   lines =
       Retired 2 0x00100080 0x30446073
@@ -224,7 +257,9 @@ host_page = record {
 -- a line that no memory answers is read and is not kept
 abbrev never_there : Example
 never_there = record {
-  setup = runs (placed (at 0x00100000 (0x00028067 ∷ []) ∷ at 0x00100080 (0x30446073 ∷ 0x7c00e073 ∷ 0x10500073 ∷ 0x000302b7 ∷ 0x00028067 ∷ []) ∷ [])) (record no_plan { changes = lines 258 8 ∷ [] });
+  setup = runs (placed (at 0x00100000 (0x00028067 ∷ [])
+      ∷ at 0x00100080 (0x30446073 ∷ 0x7c00e073 ∷ 0x10500073 ∷ 0x000302b7 ∷ 0x00028067 ∷ []) ∷ []))
+      (record no_plan { changes = lines 258 8 ∷ [] });
   limit = 300;
   lines =
       Retired 2 0x00100080 0x30446073
@@ -241,14 +276,31 @@ never_there = record {
       ∷ [];
 }
 
-agree_in_cache : AllAgree (cache_on ∷ cache_off ∷ victims ∷ walk ∷ switched ∷ fence_in_fill ∷ miss_in_flight ∷ stale_line ∷ host_page ∷ never_there ∷ [])
-unfolding wires_at bus_line story_after ctl_after dummy_word dummy_cost brought_parcels step_with words_there admission item_at access_at taken continued event_at told up_to_halt retired_item item_of dummy_item memory_at written_by sent_by enabled_at is_walked is_cached none_between last_fill is_present found_slot victim fill_grant request_by first_from shown_of gate past issue words last_of redirected words_for admission_for item_for times_for cycles_from made_by done_by done_of kind_at has_answered admitted after_event first_times refused_at error_at stored load store csr_access return_from_trap execute fetch instruction_of with_bytes image_memory operands finished instruction interrupted reset_state alu_of branch_of md_cost_of md_value view_of csr_of csr_reset value_of csr_read put_value csr_can_write csr_write csr_tick counters_after with_trap_regs pending_of enter_of enter_target leave_of allowed bytes_number bits_number loaded lanes_of gather_of request_of expand_of decode_of image_byte waits_of grant_time answer_time lib.Count.count_trailing_zeros lib.Count.count_leading_zeros
+-- each of these runs has the lines that stand in it
+agree_in_cache : AllAgree (cache_on ∷ cache_off ∷ victims ∷ walk ∷ switched ∷ fence_in_fill ∷ miss_in_flight
+    ∷ stale_line ∷ host_page ∷ never_there ∷ [])
+unfolding wires_at bus_line story_after ctl_after dummy_word dummy_cost brought_parcels step_with words_there admission
+    item_at access_at taken continued event_at told up_to_halt retired_item item_of dummy_item memory_at written_by
+    sent_by enabled_at is_walked is_cached none_between last_fill is_present found_slot victim fill_grant request_by
+    first_from shown_of gate past issue words last_of redirected words_for admission_for item_for times_for cycles_from
+    made_by done_by done_of kind_at has_answered admitted after_event first_times refused_at error_at stored load store
+    csr_access return_from_trap execute fetch instruction_of with_bytes image_memory operands finished instruction
+    interrupted reset_state alu_of branch_of md_cost_of md_value view_of csr_of csr_reset value_of csr_read put_value
+    csr_can_write csr_write csr_tick counters_after with_trap_regs pending_of enter_of enter_target leave_of allowed
+    bytes_number bits_number loaded lanes_of gather_of request_of expand_of decode_of image_byte waits_of grant_time
+    answer_time lib.Count.count_trailing_zeros lib.Count.count_leading_zeros
 agree_in_cache = (refl, (refl, (refl, (refl, (refl, (refl, (refl, (refl, (refl, (refl, tt))))))))))
 
 -- a line that was read during a FENCE.I is not kept, though the walk has passed its set
 abbrev lost_fill : Example
 lost_fill = record {
-  setup = runs (program (0x30446073 ∷ 0x7c00e073 ∷ 0x10500073 ∷ 0x00000013 ∷ 0x0000100f ∷ 0x10500073 ∷ 0x0040006f ∷ 0x00000013 ∷ 0x00000013 ∷ [])) (record no_plan { iwaits = wait 0 0 ∷ wait 0 0 ∷ wait 0 0 ∷ wait 0 0 ∷ wait 0 0 ∷ wait 0 0 ∷ wait 0 20 ∷ wait 0 20 ∷ []; changes = lines 258 8 ∷ lines 259 0 ∷ lines 520 8 ∷ [] });
+  setup = runs (program (0x30446073 ∷ 0x7c00e073 ∷ 0x10500073 ∷ 0x00000013 ∷ 0x0000100f ∷ 0x10500073 ∷ 0x0040006f
+      ∷ 0x00000013 ∷ 0x00000013 ∷ [])) (record no_plan {
+        iwaits =
+            wait 0 0 ∷ wait 0 0 ∷ wait 0 0 ∷ wait 0 0 ∷ wait 0 0 ∷ wait 0 0 ∷ wait 0 20 ∷ wait 0 20 ∷ [];
+        changes =
+            lines 258 8 ∷ lines 259 0 ∷ lines 520 8 ∷ [];
+      });
   limit = 530;
   lines =
       Retired 2 0x00100080 0x30446073
@@ -265,7 +317,9 @@ lost_fill = record {
 -- requests are cached again 257 cycles after a FENCE.I
 abbrev fence_window : Example
 fence_window = record {
-  setup = runs (program (0x30446073 ∷ 0x7c00e073 ∷ 0x10500073 ∷ 0x00000013 ∷ 0x0000100f ∷ 0x10500073 ∷ 0x00000013 ∷ 0x00000013 ∷ 0x00000013 ∷ 0x00000013 ∷ 0x00000013 ∷ 0x00000013 ∷ 0x00000013 ∷ 0x00000013 ∷ [])) (record no_plan { changes = lines 258 8 ∷ lines 259 0 ∷ lines 515 8 ∷ [] });
+  setup = runs (program (0x30446073 ∷ 0x7c00e073 ∷ 0x10500073 ∷ 0x00000013 ∷ 0x0000100f ∷ 0x10500073 ∷ 0x00000013
+      ∷ 0x00000013 ∷ 0x00000013 ∷ 0x00000013 ∷ 0x00000013 ∷ 0x00000013 ∷ 0x00000013 ∷ 0x00000013 ∷ []))
+      (record no_plan { changes = lines 258 8 ∷ lines 259 0 ∷ lines 515 8 ∷ [] });
   limit = 535;
   lines =
       Retired 2 0x00100080 0x30446073
@@ -286,30 +340,71 @@ fence_window = record {
       ∷ [];
 }
 
+-- and so has each with a FENCE.I
 agree_in_fences : AllAgree (lost_fill ∷ fence_window ∷ [])
-unfolding wires_at bus_line story_after ctl_after dummy_word dummy_cost brought_parcels step_with words_there admission item_at access_at taken continued event_at told up_to_halt retired_item item_of dummy_item memory_at written_by sent_by enabled_at is_walked is_cached none_between last_fill is_present found_slot victim fill_grant request_by first_from shown_of gate past issue words last_of redirected words_for admission_for item_for times_for cycles_from made_by done_by done_of kind_at has_answered admitted after_event first_times refused_at error_at stored load store csr_access return_from_trap execute fetch instruction_of with_bytes image_memory operands finished instruction interrupted reset_state alu_of branch_of md_cost_of md_value view_of csr_of csr_reset value_of csr_read put_value csr_can_write csr_write csr_tick counters_after with_trap_regs pending_of enter_of enter_target leave_of allowed bytes_number bits_number loaded lanes_of gather_of request_of expand_of decode_of image_byte waits_of grant_time answer_time lib.Count.count_trailing_zeros lib.Count.count_leading_zeros
+unfolding wires_at bus_line story_after ctl_after dummy_word dummy_cost brought_parcels step_with words_there admission
+    item_at access_at taken continued event_at told up_to_halt retired_item item_of dummy_item memory_at written_by
+    sent_by enabled_at is_walked is_cached none_between last_fill is_present found_slot victim fill_grant request_by
+    first_from shown_of gate past issue words last_of redirected words_for admission_for item_for times_for cycles_from
+    made_by done_by done_of kind_at has_answered admitted after_event first_times refused_at error_at stored load store
+    csr_access return_from_trap execute fetch instruction_of with_bytes image_memory operands finished instruction
+    interrupted reset_state alu_of branch_of md_cost_of md_value view_of csr_of csr_reset value_of csr_read put_value
+    csr_can_write csr_write csr_tick counters_after with_trap_regs pending_of enter_of enter_target leave_of allowed
+    bytes_number bits_number loaded lanes_of gather_of request_of expand_of decode_of image_byte waits_of grant_time
+    answer_time lib.Count.count_trailing_zeros lib.Count.count_leading_zeros
 agree_in_fences = (refl, (refl, tt))
 
 -- ---- the cache by itself
 
+-- the cache is on from reset on
 abbrev on_from_reset : List Switch
 on_from_reset = record { time = 0; on = true } ∷ []
 
 -- words that are requested one after another, each at the answer of the one before, with the cache on
 abbrev requested : Past → List ℕ → Past
 requested y [] = y
-requested y (a ∷ rest) = requested (after_request (settings_of (runs (program []) no_plan)) on_from_reset [] y (max 300 y.answer) a) rest
+requested y (a ∷ rest) =
+    requested (after_request (settings_of (runs (program []) no_plan)) on_from_reset [] y (max 300 y.answer) a) rest
 
 -- misses on lines of one set fill ways 0, 1, 0 and 1; the last comes first
-ways_of_misses : map (λ (x : Fill). x.way) (requested nothing_past (0x00100000 ∷ 0x00100800 ∷ 0x00101000 ∷ 0x00100000 ∷ [])).fills ≡ true ∷ false ∷ true ∷ false ∷ []
-unfolding wires_at bus_line story_after ctl_after dummy_word dummy_cost brought_parcels step_with words_there admission item_at access_at taken continued event_at told up_to_halt retired_item item_of dummy_item memory_at written_by sent_by enabled_at is_walked is_cached none_between last_fill is_present found_slot victim fill_grant request_by first_from shown_of gate past issue words last_of redirected words_for admission_for item_for times_for cycles_from made_by done_by done_of kind_at has_answered admitted after_event first_times refused_at error_at stored load store csr_access return_from_trap execute fetch instruction_of with_bytes image_memory operands finished instruction interrupted reset_state alu_of branch_of md_cost_of md_value view_of csr_of csr_reset value_of csr_read put_value csr_can_write csr_write csr_tick counters_after with_trap_regs pending_of enter_of enter_target leave_of allowed bytes_number bits_number loaded lanes_of gather_of request_of expand_of decode_of image_byte waits_of grant_time answer_time lib.Count.count_trailing_zeros lib.Count.count_leading_zeros
+ways_of_misses : map (λ (x : Fill). x.way)
+    (requested nothing_past (0x00100000 ∷ 0x00100800 ∷ 0x00101000 ∷ 0x00100000 ∷ [])).fills
+    ≡ true ∷ false ∷ true ∷ false ∷ []
+unfolding wires_at bus_line story_after ctl_after dummy_word dummy_cost brought_parcels step_with words_there admission
+    item_at access_at taken continued event_at told up_to_halt retired_item item_of dummy_item memory_at written_by
+    sent_by enabled_at is_walked is_cached none_between last_fill is_present found_slot victim fill_grant request_by
+    first_from shown_of gate past issue words last_of redirected words_for admission_for item_for times_for cycles_from
+    made_by done_by done_of kind_at has_answered admitted after_event first_times refused_at error_at stored load store
+    csr_access return_from_trap execute fetch instruction_of with_bytes image_memory operands finished instruction
+    interrupted reset_state alu_of branch_of md_cost_of md_value view_of csr_of csr_reset value_of csr_read put_value
+    csr_can_write csr_write csr_tick counters_after with_trap_regs pending_of enter_of enter_target leave_of allowed
+    bytes_number bits_number loaded lanes_of gather_of request_of expand_of decode_of image_byte waits_of grant_time
+    answer_time lib.Count.count_trailing_zeros lib.Count.count_leading_zeros
 ways_of_misses = refl
 
 -- a miss answers four cycles after its request, and a hit in the next
 answer_of_miss : (requested nothing_past (0x00100000 ∷ [])).answer ≡ 304
-unfolding wires_at bus_line story_after ctl_after dummy_word dummy_cost brought_parcels step_with words_there admission item_at access_at taken continued event_at told up_to_halt retired_item item_of dummy_item memory_at written_by sent_by enabled_at is_walked is_cached none_between last_fill is_present found_slot victim fill_grant request_by first_from shown_of gate past issue words last_of redirected words_for admission_for item_for times_for cycles_from made_by done_by done_of kind_at has_answered admitted after_event first_times refused_at error_at stored load store csr_access return_from_trap execute fetch instruction_of with_bytes image_memory operands finished instruction interrupted reset_state alu_of branch_of md_cost_of md_value view_of csr_of csr_reset value_of csr_read put_value csr_can_write csr_write csr_tick counters_after with_trap_regs pending_of enter_of enter_target leave_of allowed bytes_number bits_number loaded lanes_of gather_of request_of expand_of decode_of image_byte waits_of grant_time answer_time lib.Count.count_trailing_zeros lib.Count.count_leading_zeros
+unfolding wires_at bus_line story_after ctl_after dummy_word dummy_cost brought_parcels step_with words_there admission
+    item_at access_at taken continued event_at told up_to_halt retired_item item_of dummy_item memory_at written_by
+    sent_by enabled_at is_walked is_cached none_between last_fill is_present found_slot victim fill_grant request_by
+    first_from shown_of gate past issue words last_of redirected words_for admission_for item_for times_for cycles_from
+    made_by done_by done_of kind_at has_answered admitted after_event first_times refused_at error_at stored load store
+    csr_access return_from_trap execute fetch instruction_of with_bytes image_memory operands finished instruction
+    interrupted reset_state alu_of branch_of md_cost_of md_value view_of csr_of csr_reset value_of csr_read put_value
+    csr_can_write csr_write csr_tick counters_after with_trap_regs pending_of enter_of enter_target leave_of allowed
+    bytes_number bits_number loaded lanes_of gather_of request_of expand_of decode_of image_byte waits_of grant_time
+    answer_time lib.Count.count_trailing_zeros lib.Count.count_leading_zeros
 answer_of_miss = refl
 
 answer_of_hit : (requested nothing_past (0x00100000 ∷ 0x00100004 ∷ [])).answer ≡ 305
-unfolding wires_at bus_line story_after ctl_after dummy_word dummy_cost brought_parcels step_with words_there admission item_at access_at taken continued event_at told up_to_halt retired_item item_of dummy_item memory_at written_by sent_by enabled_at is_walked is_cached none_between last_fill is_present found_slot victim fill_grant request_by first_from shown_of gate past issue words last_of redirected words_for admission_for item_for times_for cycles_from made_by done_by done_of kind_at has_answered admitted after_event first_times refused_at error_at stored load store csr_access return_from_trap execute fetch instruction_of with_bytes image_memory operands finished instruction interrupted reset_state alu_of branch_of md_cost_of md_value view_of csr_of csr_reset value_of csr_read put_value csr_can_write csr_write csr_tick counters_after with_trap_regs pending_of enter_of enter_target leave_of allowed bytes_number bits_number loaded lanes_of gather_of request_of expand_of decode_of image_byte waits_of grant_time answer_time lib.Count.count_trailing_zeros lib.Count.count_leading_zeros
+unfolding wires_at bus_line story_after ctl_after dummy_word dummy_cost brought_parcels step_with words_there admission
+    item_at access_at taken continued event_at told up_to_halt retired_item item_of dummy_item memory_at written_by
+    sent_by enabled_at is_walked is_cached none_between last_fill is_present found_slot victim fill_grant request_by
+    first_from shown_of gate past issue words last_of redirected words_for admission_for item_for times_for cycles_from
+    made_by done_by done_of kind_at has_answered admitted after_event first_times refused_at error_at stored load store
+    csr_access return_from_trap execute fetch instruction_of with_bytes image_memory operands finished instruction
+    interrupted reset_state alu_of branch_of md_cost_of md_value view_of csr_of csr_reset value_of csr_read put_value
+    csr_can_write csr_write csr_tick counters_after with_trap_regs pending_of enter_of enter_target leave_of allowed
+    bytes_number bits_number loaded lanes_of gather_of request_of expand_of decode_of image_byte waits_of grant_time
+    answer_time lib.Count.count_trailing_zeros lib.Count.count_leading_zeros
 answer_of_hit = refl

@@ -6,11 +6,13 @@ use Rattle.ibx_csr.specs.declared.name.Csr.TheVariants.{Mstatus, Mie, Pmpcfg, Pm
 use Rattle.ibx_csr.specs.Kept.{is_addr_locked}
 use Rattle.ibx_csr.specs.Bits.{is_control_at}
 use Rattle.ibx_csr.specs.Table.{writable}
-use Rattle.ibx_csr.specs.Values.{CsrValues, cfg_bytes, csr_reset, csr_tick, csr_write, counters_after, put_at, put_value, trap_regs, with_trap_regs}
+use Rattle.ibx_csr.specs.Values.{CsrValues, cfg_bytes, csr_reset, csr_tick, csr_write, counters_after, put_at}
+use Rattle.ibx_csr.specs.Values.{put_value, trap_regs, with_trap_regs}
 use Rattle.ibx_trap.specs.Traps.{enter_of, leave_of}
 use Rattle.ibx_time.specs.Controls.{ctl_of, values_of, ctl_entered, ctl_left, ctl_written, ctl_reset}
 use Rattle.ibx_time.proofs.Registers.{is_loose, writable_loose}
 
+-- counters move none of them, and what reset, a trap, MRET and a write leave of them is told by them alone
 pub ctl_of-counters : (v : CsrValues) (n : ℕ) → ctl_of (counters_after v n) ≡ ctl_of v
 unfolding counters_after
 ctl_of-counters v n = refl
@@ -23,7 +25,8 @@ pub ctl_of-reset : (entry : ℕ) → ctl_of (csr_reset entry) ≡ ctl_reset
 unfolding csr_reset
 ctl_of-reset entry = refl
 
-pub ctl_of-enter : (v : CsrValues) (pc cause : ℕ) (irq : Bool) (tval : ℕ) → ctl_of (with_trap_regs v (enter_of (trap_regs v) pc cause irq tval)) ≡ ctl_entered (ctl_of v) irq
+pub ctl_of-enter : (v : CsrValues) (pc cause : ℕ) (irq : Bool) (tval : ℕ)
+    → ctl_of (with_trap_regs v (enter_of (trap_regs v) pc cause irq tval)) ≡ ctl_entered (ctl_of v) irq
 unfolding with_trap_regs enter_of
 ctl_of-enter v pc cause irq tval = refl
 
@@ -31,16 +34,22 @@ pub ctl_of-leave : (v : CsrValues) → ctl_of (with_trap_regs v (leave_of (trap_
 unfolding with_trap_regs leave_of
 ctl_of-leave v = refl
 
-by_register : (v : CsrValues) (c : Csr) (w : ℕ) → ctl_of (put_value v c w) ≡ ctl_of (put_value (values_of (ctl_of v)) c w)
+-- a write leaves of them what it leaves where all other registers are 0: for one register, for one that there may be,
+-- and at an address
+by_register : (v : CsrValues) (c : Csr) (w : ℕ)
+    → ctl_of (put_value v c w) ≡ ctl_of (put_value (values_of (ctl_of v)) c w)
 unfolding put_value
 by_register v (Pmpaddr k) w = by_locked (is_addr_locked (cfg_bytes v) k)
   where
-    by_locked : (b : Bool) → ctl_of (if b then v else record v { pmpaddr = slice_set v.pmpaddr k w }) ≡ ctl_of (if b then values_of (ctl_of v) else record (values_of (ctl_of v)) { pmpaddr = slice_set v.pmpaddr k w })
+    by_locked : (b : Bool) → ctl_of (if b then v else record v { pmpaddr = slice_set v.pmpaddr k w })
+        ≡ ctl_of (if b then values_of (ctl_of v)
+        else record (values_of (ctl_of v)) { pmpaddr = slice_set v.pmpaddr k w })
     by_locked true = refl
     by_locked false = refl
 by_register v _ w = refl
 
-by_found : (v : CsrValues) (o : Option Csr) (w : ℕ) → ctl_of (put_at v w o) ≡ ctl_of (put_at (values_of (ctl_of v)) w o)
+by_found : (v : CsrValues) (o : Option Csr) (w : ℕ)
+    → ctl_of (put_at v w o) ≡ ctl_of (put_at (values_of (ctl_of v)) w o)
 by_found v None w = refl
 by_found v (Some c) w = by_register v c w
 
@@ -50,6 +59,7 @@ ctl_of-write v a w = by_found v (writable v.machine a) w
 
 -- ---- a write of another register leaves them
 
+-- one for a register, one for one that there may be, and one for an address
 loose_put : (v : CsrValues) (c : Csr) (w : ℕ) → is_loose (Some c) ≡ true → ctl_of (put_value v c w) ≡ ctl_of v
 unfolding put_value
 loose_put v Mstatus w e = absurd (cc)

@@ -1,7 +1,8 @@
 -- Rows of the table of cycles, computed.
 use Rattle.std.specs.Prelude.{[], ◌∷◌, refl}
 use Rattle.ibx_elf.specs.Image.{image_byte}
-use Rattle.ibx_time.specs.History.{brought_parcels, words_there, admission, item_at, access_at, taken, continued, event_at, told, up_to_halt}
+use Rattle.ibx_time.specs.History.{brought_parcels, words_there, admission, item_at, access_at, taken, continued}
+use Rattle.ibx_time.specs.History.{event_at, told, up_to_halt}
 use Rattle.ibx_time.specs.Timeline.{words_for, admission_for, item_for, times_for, cycles_from}
 use Rattle.ibx_time.specs.BusLines.{wires_at, bus_line}
 use Rattle.ibx_time.specs.Chains.{story_after}
@@ -10,7 +11,8 @@ use Rattle.ibx_time.specs.Dummies.{dummy_cost}
 use Rattle.ibx_dummy.specs.Dummies.{dummy_word}
 use Rattle.ibx_time.specs.Items.{retired_item, item_of, dummy_item}
 use Rattle.ibx_time.specs.Memories.{memory_at, written_by, sent_by}
-use Rattle.ibx_time.specs.Requests.{enabled_at, is_walked, is_cached, none_between, last_fill, is_present, found_slot, victim, fill_grant, request_by}
+use Rattle.ibx_time.specs.Requests.{enabled_at, is_walked, is_cached, none_between, last_fill, is_present, found_slot}
+use Rattle.ibx_time.specs.Requests.{victim, fill_grant, request_by}
 use Rattle.ibx_time.specs.Search.{first_from}
 use Rattle.ibx_time.specs.Shown.{shown_of}
 use Rattle.ibx_time.specs.Streams.{gate, past, issue, words, last_of, redirected}
@@ -26,7 +28,8 @@ use Rattle.ibx_isa.specs.Cost.{md_cost_of}
 use Rattle.ibx_isa.specs.Multiply.{md_value}
 use Rattle.ibx_isa.specs.Views.{view_of}
 use Rattle.ibx_csr.specs.Table.{csr_of}
-use Rattle.ibx_csr.specs.Values.{csr_reset, value_of, csr_read, put_value, csr_can_write, csr_write, csr_tick, counters_after, with_trap_regs}
+use Rattle.ibx_csr.specs.Values.{csr_reset, value_of, csr_read, put_value, csr_can_write, csr_write, csr_tick}
+use Rattle.ibx_csr.specs.Values.{counters_after, with_trap_regs}
 use Rattle.ibx_trap.specs.Interrupts.{pending_of}
 use Rattle.ibx_trap.specs.Traps.{enter_of, enter_target, leave_of}
 use Rattle.ibx_pmp.specs.Ranges.{allowed}
@@ -36,7 +39,8 @@ use Rattle.ibx_isa.specs.Wires.{request_of}
 use Rattle.ibx_decoder.specs.Compressed.{expand_of}
 use Rattle.ibx_decoder.specs.Rows.{decode_of}
 use Rattle.ibx_bus.specs.PortTimes.{waits_of, grant_time, answer_time}
-use Rattle.ibx_time.proofs.Runs.{Example, AllAgree, Retired, Wrote, Stored, Trapped, Interrupted, at, placed, program, no_plan, wait, lines, runs}
+use Rattle.ibx_time.proofs.Runs.{Example, AllAgree, Retired, Wrote, Stored, Trapped, Interrupted, at, placed, program}
+use Rattle.ibx_time.proofs.Runs.{no_plan, wait, lines, runs}
 
 -- the first store halts
 abbrev row1 : Example
@@ -118,7 +122,8 @@ row4_fixed = record {
 -- a load across words, and waits of the data port that begin anew
 abbrev row7 : Example
 row7 = record {
-  setup = runs (program (0x001002b7 ∷ 0x0832a403 ∷ 0x00020337 ∷ 0x00100393 ∷ 0x00732423 ∷ [])) (record no_plan { dwaits = wait 2 1 ∷ wait 0 0 ∷ [] });
+  setup = runs (program (0x001002b7 ∷ 0x0832a403 ∷ 0x00020337 ∷ 0x00100393 ∷ 0x00732423 ∷ []))
+      (record no_plan { dwaits = wait 2 1 ∷ wait 0 0 ∷ [] });
   limit = 20;
   lines =
       Wrote 2 0x00100080 0x001002b7 5 0x00100000
@@ -145,7 +150,8 @@ row8 = record {
 -- protection refuses the second parcel
 abbrev row9 : Example
 row9 = record {
-  setup = runs (program (0x000402b7 ∷ 0x02628293 ∷ 0x3b029073 ∷ 0x09000413 ∷ 0x3a041073 ∷ 0x00130001 ∷ 0x00000000 ∷ [])) no_plan;
+  setup = runs (program (0x000402b7 ∷ 0x02628293 ∷ 0x3b029073 ∷ 0x09000413 ∷ 0x3a041073 ∷ 0x00130001 ∷ 0x00000000
+      ∷ [])) no_plan;
   limit = 10;
   lines =
       Wrote 2 0x00100080 0x000402b7 5 0x00040000
@@ -175,7 +181,8 @@ row10 = record {
 -- a store into the next instruction, which is fetched already
 abbrev row11a : Example
 row11a = record {
-  setup = runs (program (0x001002b7 ∷ 0x00200437 ∷ 0x49340413 ∷ 0x0882a823 ∷ 0x00100493 ∷ 0x00020337 ∷ 0x00100393 ∷ 0x00732423 ∷ [])) no_plan;
+  setup = runs (program (0x001002b7 ∷ 0x00200437 ∷ 0x49340413 ∷ 0x0882a823 ∷ 0x00100493 ∷ 0x00020337 ∷ 0x00100393
+      ∷ 0x00732423 ∷ [])) no_plan;
   limit = 20;
   lines =
       Wrote 2 0x00100080 0x001002b7 5 0x00100000
@@ -192,7 +199,8 @@ row11a = record {
 -- the same with FENCE.I between
 abbrev row11b : Example
 row11b = record {
-  setup = runs (program (0x001002b7 ∷ 0x00200437 ∷ 0x49340413 ∷ 0x0882aa23 ∷ 0x0000100f ∷ 0x00100493 ∷ 0x00020337 ∷ 0x00100393 ∷ 0x00732423 ∷ [])) no_plan;
+  setup = runs (program (0x001002b7 ∷ 0x00200437 ∷ 0x49340413 ∷ 0x0882aa23 ∷ 0x0000100f ∷ 0x00100493 ∷ 0x00020337
+      ∷ 0x00100393 ∷ 0x00732423 ∷ [])) no_plan;
   limit = 20;
   lines =
       Wrote 2 0x00100080 0x001002b7 5 0x00100000
@@ -210,7 +218,8 @@ row11b = record {
 -- an interrupt line that rises where interrupts are off again
 abbrev row12a : Example
 row12a = record {
-  setup = runs (program (0x30446073 ∷ 0x30046073 ∷ 0x30047073 ∷ 0x00020337 ∷ 0x00100393 ∷ 0x00732423 ∷ [])) (record no_plan { changes = lines 4 8 ∷ [] });
+  setup = runs (program (0x30446073 ∷ 0x30046073 ∷ 0x30047073 ∷ 0x00020337 ∷ 0x00100393 ∷ 0x00732423 ∷ []))
+      (record no_plan { changes = lines 4 8 ∷ [] });
   limit = 12;
   lines =
       Retired 2 0x00100080 0x30446073
@@ -225,7 +234,8 @@ row12a = record {
 -- one that rises where they are on
 abbrev row12b : Example
 row12b = record {
-  setup = runs (program (0x30446073 ∷ 0x30046073 ∷ 0x30047073 ∷ 0x00020337 ∷ 0x00100393 ∷ 0x00732423 ∷ [])) (record no_plan { changes = lines 3 8 ∷ [] });
+  setup = runs (program (0x30446073 ∷ 0x30046073 ∷ 0x30047073 ∷ 0x00020337 ∷ 0x00100393 ∷ 0x00732423 ∷ []))
+      (record no_plan { changes = lines 3 8 ∷ [] });
   limit = 8;
   lines =
       Retired 2 0x00100080 0x30446073
@@ -264,7 +274,14 @@ row13b = record {
 -- a trap and its handler
 abbrev row14 : Example
 row14 = record {
-  setup = runs (placed (at 0x00100000 (0x00020337 ∷ 0x00100393 ∷ 0x00732423 ∷ 0x00000000 ∷ 0x00000000 ∷ 0x00000000 ∷ 0x00000000 ∷ 0x00000000 ∷ 0x00000000 ∷ 0x00000000 ∷ 0x00000000 ∷ 0x00000000 ∷ 0x00000000 ∷ 0x00000000 ∷ 0x00000000 ∷ 0x00000000 ∷ 0x00000000 ∷ 0x00000000 ∷ 0x00000000 ∷ 0x00000000 ∷ 0x00000000 ∷ 0x00000000 ∷ 0x00000000 ∷ 0x00000000 ∷ 0x00000000 ∷ 0x00000000 ∷ 0x00000000 ∷ 0x00000000 ∷ 0x00000000 ∷ 0x00000000 ∷ 0x00000000 ∷ 0x00000000 ∷ 0x00000073 ∷ []) ∷ [])) no_plan;
+  setup = runs (placed (at 0x00100000
+      (0x00020337 ∷ 0x00100393 ∷ 0x00732423 ∷ 0x00000000 ∷ 0x00000000 ∷ 0x00000000 ∷ 0x00000000 ∷ 0x00000000
+      ∷ 0x00000000
+      ∷ 0x00000000 ∷ 0x00000000 ∷ 0x00000000 ∷ 0x00000000 ∷ 0x00000000 ∷ 0x00000000 ∷ 0x00000000 ∷ 0x00000000
+      ∷ 0x00000000
+      ∷ 0x00000000 ∷ 0x00000000 ∷ 0x00000000 ∷ 0x00000000 ∷ 0x00000000 ∷ 0x00000000 ∷ 0x00000000 ∷ 0x00000000
+      ∷ 0x00000000
+      ∷ 0x00000000 ∷ 0x00000000 ∷ 0x00000000 ∷ 0x00000000 ∷ 0x00000000 ∷ 0x00000073 ∷ []) ∷ [])) no_plan;
   limit = 12;
   lines =
       Trapped 3 0x00100080 11 0x00000000
@@ -316,9 +333,60 @@ row20_below_6 = record {
       ∷ [];
 }
 
-agree_in_rows : AllAgree (row1 ∷ row2 ∷ row3 ∷ row4_taken ∷ row4_untaken ∷ row4_fixed ∷ row7 ∷ row8 ∷ row9 ∷ row10 ∷ row11a ∷ row11b ∷ row12a ∷ row12b ∷ row13a ∷ row13b ∷ row14 ∷ row20_below_1 ∷ row20_below_3 ∷ row20_below_5 ∷ row20_below_6 ∷ [])
-unfolding wires_at bus_line story_after ctl_after dummy_word dummy_cost brought_parcels step_with words_there admission item_at access_at taken continued event_at told up_to_halt retired_item item_of dummy_item memory_at written_by sent_by enabled_at is_walked is_cached none_between last_fill is_present found_slot victim fill_grant request_by first_from shown_of gate past issue words last_of redirected words_for admission_for item_for times_for cycles_from made_by done_by done_of kind_at has_answered admitted after_event first_times refused_at error_at stored load store csr_access return_from_trap execute fetch instruction_of with_bytes image_memory operands finished instruction interrupted reset_state alu_of branch_of md_cost_of md_value view_of csr_of csr_reset value_of csr_read put_value csr_can_write csr_write csr_tick counters_after with_trap_regs pending_of enter_of enter_target leave_of allowed bytes_number bits_number loaded lanes_of gather_of request_of expand_of decode_of image_byte waits_of grant_time answer_time lib.Count.count_trailing_zeros lib.Count.count_leading_zeros
-agree_in_rows = (refl, (refl, (refl, (refl, (refl, (refl, (refl, (refl, (refl, (refl, (refl, (refl, (refl, (refl, (refl, (refl, (refl, (refl, (refl, (refl, (refl, tt)))))))))))))))))))))
+-- each of these runs has the lines that stand in it
+agree_in_rows : AllAgree (row1 ∷ row2 ∷ row3 ∷ row4_taken ∷ row4_untaken ∷ row4_fixed ∷ row7 ∷ row8 ∷ row9 ∷ row10
+    ∷ row11a ∷ row11b ∷ row12a ∷ row12b ∷ row13a ∷ row13b ∷ row14 ∷ row20_below_1 ∷ row20_below_3 ∷ row20_below_5
+    ∷ row20_below_6 ∷ [])
+unfolding wires_at bus_line story_after ctl_after dummy_word dummy_cost brought_parcels step_with words_there admission
+    item_at access_at taken continued event_at told up_to_halt retired_item item_of dummy_item memory_at written_by
+    sent_by enabled_at is_walked is_cached none_between last_fill is_present found_slot victim fill_grant request_by
+    first_from shown_of gate past issue words last_of redirected words_for admission_for item_for times_for cycles_from
+    made_by done_by done_of kind_at has_answered admitted after_event first_times refused_at error_at stored load store
+    csr_access return_from_trap execute fetch instruction_of with_bytes image_memory operands finished instruction
+    interrupted reset_state alu_of branch_of md_cost_of md_value view_of csr_of csr_reset value_of csr_read put_value
+    csr_can_write csr_write csr_tick counters_after with_trap_regs pending_of enter_of enter_target leave_of allowed
+    bytes_number bits_number loaded lanes_of gather_of request_of expand_of decode_of image_byte waits_of grant_time
+    answer_time lib.Count.count_trailing_zeros lib.Count.count_leading_zeros
+agree_in_rows = (
+  refl,
+  (
+    refl,
+    (
+      refl,
+      (
+        refl,
+        (
+          refl,
+          (
+            refl,
+            (
+              refl,
+              (
+                refl,
+                (
+                  refl,
+                  (
+                    refl,
+                    (
+                      refl,
+                      (
+                        refl,
+                        (
+                          refl,
+                          (refl, (refl, (refl, (refl, (refl, (refl, (refl, (refl, tt)))))))),
+                        ),
+                      ),
+                    ),
+                  ),
+                ),
+              ),
+            ),
+          ),
+        ),
+      ),
+    ),
+  ),
+)
 
 -- a division, while the buffer is full
 abbrev row5a : Example
@@ -353,7 +421,8 @@ row5b = record {
 -- a division by 0 with fixed timing
 abbrev row5c : Example
 row5c = record {
-  setup = runs (program (0x7c016073 ∷ 0x06400293 ∷ 0x00000413 ∷ 0x0282c4b3 ∷ 0x00020337 ∷ 0x00100393 ∷ 0x00732423 ∷ [])) no_plan;
+  setup = runs (program (0x7c016073 ∷ 0x06400293 ∷ 0x00000413 ∷ 0x0282c4b3 ∷ 0x00020337 ∷ 0x00100393 ∷ 0x00732423
+      ∷ [])) no_plan;
   limit = 50;
   lines =
       Retired 2 0x00100080 0x7c016073
@@ -369,7 +438,8 @@ row5c = record {
 -- the least number by -1, quotient and remainder
 abbrev row6 : Example
 row6 = record {
-  setup = runs (program (0x800002b7 ∷ 0xfff00413 ∷ 0x0282c4b3 ∷ 0x0282e533 ∷ 0x00020337 ∷ 0x00100393 ∷ 0x00732423 ∷ [])) no_plan;
+  setup = runs (program (0x800002b7 ∷ 0xfff00413 ∷ 0x0282c4b3 ∷ 0x0282e533 ∷ 0x00020337 ∷ 0x00100393 ∷ 0x00732423
+      ∷ [])) no_plan;
   limit = 90;
   lines =
       Wrote 2 0x00100080 0x800002b7 5 0x80000000
@@ -382,6 +452,16 @@ row6 = record {
       ∷ [];
 }
 
+-- and so has each with a division
 agree_in_divisions : AllAgree (row5a ∷ row5b ∷ row5c ∷ row6 ∷ [])
-unfolding wires_at bus_line story_after ctl_after dummy_word dummy_cost brought_parcels step_with words_there admission item_at access_at taken continued event_at told up_to_halt retired_item item_of dummy_item memory_at written_by sent_by enabled_at is_walked is_cached none_between last_fill is_present found_slot victim fill_grant request_by first_from shown_of gate past issue words last_of redirected words_for admission_for item_for times_for cycles_from made_by done_by done_of kind_at has_answered admitted after_event first_times refused_at error_at stored load store csr_access return_from_trap execute fetch instruction_of with_bytes image_memory operands finished instruction interrupted reset_state alu_of branch_of md_cost_of md_value view_of csr_of csr_reset value_of csr_read put_value csr_can_write csr_write csr_tick counters_after with_trap_regs pending_of enter_of enter_target leave_of allowed bytes_number bits_number loaded lanes_of gather_of request_of expand_of decode_of image_byte waits_of grant_time answer_time lib.Count.count_trailing_zeros lib.Count.count_leading_zeros
+unfolding wires_at bus_line story_after ctl_after dummy_word dummy_cost brought_parcels step_with words_there admission
+    item_at access_at taken continued event_at told up_to_halt retired_item item_of dummy_item memory_at written_by
+    sent_by enabled_at is_walked is_cached none_between last_fill is_present found_slot victim fill_grant request_by
+    first_from shown_of gate past issue words last_of redirected words_for admission_for item_for times_for cycles_from
+    made_by done_by done_of kind_at has_answered admitted after_event first_times refused_at error_at stored load store
+    csr_access return_from_trap execute fetch instruction_of with_bytes image_memory operands finished instruction
+    interrupted reset_state alu_of branch_of md_cost_of md_value view_of csr_of csr_reset value_of csr_read put_value
+    csr_can_write csr_write csr_tick counters_after with_trap_regs pending_of enter_of enter_target leave_of allowed
+    bytes_number bits_number loaded lanes_of gather_of request_of expand_of decode_of image_byte waits_of grant_time
+    answer_time lib.Count.count_trailing_zeros lib.Count.count_leading_zeros
 agree_in_divisions = (refl, (refl, (refl, (refl, tt))))

@@ -1,8 +1,10 @@
 -- Runs with errors, refusals and user mode, computed.
 use Rattle.std.specs.Prelude.{[], ◌∷◌, refl}
 use Rattle.ibx_elf.specs.Image.{image_byte}
-use Rattle.ibx_time.proofs.Runs.{Example, AllAgree, Retired, Wrote, Stored, Trapped, at, placed, program, no_plan, wait, runs}
-use Rattle.ibx_time.specs.History.{brought_parcels, words_there, admission, item_at, access_at, taken, continued, event_at, told, up_to_halt}
+use Rattle.ibx_time.proofs.Runs.{Example, AllAgree, Retired, Wrote, Stored, Trapped, at, placed, program, no_plan}
+use Rattle.ibx_time.proofs.Runs.{wait, runs}
+use Rattle.ibx_time.specs.History.{brought_parcels, words_there, admission, item_at, access_at, taken, continued}
+use Rattle.ibx_time.specs.History.{event_at, told, up_to_halt}
 use Rattle.ibx_time.specs.Timeline.{words_for, admission_for, item_for, times_for, cycles_from}
 use Rattle.ibx_time.specs.BusLines.{wires_at, bus_line}
 use Rattle.ibx_time.specs.Chains.{story_after}
@@ -11,7 +13,8 @@ use Rattle.ibx_time.specs.Dummies.{dummy_cost}
 use Rattle.ibx_dummy.specs.Dummies.{dummy_word}
 use Rattle.ibx_time.specs.Items.{retired_item, item_of, dummy_item}
 use Rattle.ibx_time.specs.Memories.{memory_at, written_by, sent_by}
-use Rattle.ibx_time.specs.Requests.{enabled_at, is_walked, is_cached, none_between, last_fill, is_present, found_slot, victim, fill_grant, request_by}
+use Rattle.ibx_time.specs.Requests.{enabled_at, is_walked, is_cached, none_between, last_fill, is_present, found_slot}
+use Rattle.ibx_time.specs.Requests.{victim, fill_grant, request_by}
 use Rattle.ibx_time.specs.Search.{first_from}
 use Rattle.ibx_time.specs.Shown.{shown_of}
 use Rattle.ibx_time.specs.Streams.{gate, past, issue, words, last_of, redirected}
@@ -27,7 +30,8 @@ use Rattle.ibx_isa.specs.Cost.{md_cost_of}
 use Rattle.ibx_isa.specs.Multiply.{md_value}
 use Rattle.ibx_isa.specs.Views.{view_of}
 use Rattle.ibx_csr.specs.Table.{csr_of}
-use Rattle.ibx_csr.specs.Values.{csr_reset, value_of, csr_read, put_value, csr_can_write, csr_write, csr_tick, counters_after, with_trap_regs}
+use Rattle.ibx_csr.specs.Values.{csr_reset, value_of, csr_read, put_value, csr_can_write, csr_write, csr_tick}
+use Rattle.ibx_csr.specs.Values.{counters_after, with_trap_regs}
 use Rattle.ibx_trap.specs.Interrupts.{pending_of}
 use Rattle.ibx_trap.specs.Traps.{enter_of, enter_target, leave_of}
 use Rattle.ibx_pmp.specs.Ranges.{allowed}
@@ -67,7 +71,8 @@ load_second_bad = record {
 -- a store whose first part no memory answers makes no second: the word is as before
 abbrev store_first_bad : Example
 store_first_bad = record {
-  setup = runs (placed (at 0x00100000 (0x0002a383 ∷ 0x00020337 ∷ 0x00100393 ∷ 0x00732423 ∷ []) ∷ at 0x00100080 (0x001002b7 ∷ 0xfff00313 ∷ 0xfe62af23 ∷ []) ∷ [])) (record no_plan { dwaits = wait 0 1 ∷ [] });
+  setup = runs (placed (at 0x00100000 (0x0002a383 ∷ 0x00020337 ∷ 0x00100393 ∷ 0x00732423 ∷ [])
+      ∷ at 0x00100080 (0x001002b7 ∷ 0xfff00313 ∷ 0xfe62af23 ∷ []) ∷ [])) (record no_plan { dwaits = wait 0 1 ∷ [] });
   limit = 24;
   lines =
       Wrote 2 0x00100080 0x001002b7 5 0x00100000
@@ -83,7 +88,8 @@ store_first_bad = record {
 -- a store whose second part no memory answers has made its first
 abbrev store_second_bad : Example
 store_second_bad = record {
-  setup = runs (placed (at 0x00100000 (0xffc2a383 ∷ 0x00020337 ∷ 0x00100393 ∷ 0x00732423 ∷ []) ∷ at 0x00100080 (0x002002b7 ∷ 0xfff00313 ∷ 0xfe62af23 ∷ []) ∷ [])) (record no_plan { dwaits = wait 0 1 ∷ [] });
+  setup = runs (placed (at 0x00100000 (0xffc2a383 ∷ 0x00020337 ∷ 0x00100393 ∷ 0x00732423 ∷ [])
+      ∷ at 0x00100080 (0x002002b7 ∷ 0xfff00313 ∷ 0xfe62af23 ∷ []) ∷ [])) (record no_plan { dwaits = wait 0 1 ∷ [] });
   limit = 24;
   lines =
       Wrote 2 0x00100080 0x002002b7 5 0x00200000
@@ -137,7 +143,8 @@ crossing_first_bad = record {
 -- no memory answers the second parcel
 abbrev second_parcel_bad : Example
 second_parcel_bad = record {
-  setup = runs (placed (at 0x00100080 (0x002002b7 ∷ 0xffc280e7 ∷ []) ∷ at 0x001ffffc (0x00130001 ∷ []) ∷ [])) (record no_plan { iwaits = wait 0 1 ∷ [] });
+  setup = runs (placed (at 0x00100080 (0x002002b7 ∷ 0xffc280e7 ∷ []) ∷ at 0x001ffffc (0x00130001 ∷ []) ∷ []))
+      (record no_plan { iwaits = wait 0 1 ∷ [] });
   limit = 20;
   lines =
       Wrote 3 0x00100080 0x002002b7 5 0x00200000
@@ -148,14 +155,26 @@ second_parcel_bad = record {
       ∷ [];
 }
 
-agree_in_errors : AllAgree (load_first_bad ∷ load_second_bad ∷ store_first_bad ∷ store_second_bad ∷ one_bad ∷ first_parcel_bad ∷ crossing_first_bad ∷ second_parcel_bad ∷ [])
-unfolding wires_at bus_line story_after ctl_after dummy_word dummy_cost brought_parcels step_with words_there admission item_at access_at taken continued event_at told up_to_halt retired_item item_of dummy_item memory_at written_by sent_by enabled_at is_walked is_cached none_between last_fill is_present found_slot victim fill_grant request_by first_from shown_of gate past issue words last_of redirected words_for admission_for item_for times_for cycles_from made_by done_by done_of kind_at has_answered admitted after_event first_times refused_at error_at stored load store csr_access return_from_trap execute fetch instruction_of with_bytes image_memory operands finished instruction interrupted reset_state alu_of branch_of md_cost_of md_value view_of csr_of csr_reset value_of csr_read put_value csr_can_write csr_write csr_tick counters_after with_trap_regs pending_of enter_of enter_target leave_of allowed bytes_number bits_number loaded lanes_of gather_of request_of expand_of decode_of image_byte waits_of grant_time answer_time lib.Count.count_trailing_zeros lib.Count.count_leading_zeros
+-- each of these runs has the lines that stand in it
+agree_in_errors : AllAgree (load_first_bad ∷ load_second_bad ∷ store_first_bad ∷ store_second_bad ∷ one_bad
+    ∷ first_parcel_bad ∷ crossing_first_bad ∷ second_parcel_bad ∷ [])
+unfolding wires_at bus_line story_after ctl_after dummy_word dummy_cost brought_parcels step_with words_there admission
+    item_at access_at taken continued event_at told up_to_halt retired_item item_of dummy_item memory_at written_by
+    sent_by enabled_at is_walked is_cached none_between last_fill is_present found_slot victim fill_grant request_by
+    first_from shown_of gate past issue words last_of redirected words_for admission_for item_for times_for cycles_from
+    made_by done_by done_of kind_at has_answered admitted after_event first_times refused_at error_at stored load store
+    csr_access return_from_trap execute fetch instruction_of with_bytes image_memory operands finished instruction
+    interrupted reset_state alu_of branch_of md_cost_of md_value view_of csr_of csr_reset value_of csr_read put_value
+    csr_can_write csr_write csr_tick counters_after with_trap_regs pending_of enter_of enter_target leave_of allowed
+    bytes_number bits_number loaded lanes_of gather_of request_of expand_of decode_of image_byte waits_of grant_time
+    answer_time lib.Count.count_trailing_zeros lib.Count.count_leading_zeros
 agree_in_errors = (refl, (refl, (refl, (refl, (refl, (refl, (refl, (refl, tt))))))))
 
 -- protection refuses the first part of a load: no request is made
 abbrev load_refused : Example
 load_refused = record {
-  setup = runs (program (0x000402b7 ∷ 0x04028293 ∷ 0x3b029073 ∷ 0x09000293 ∷ 0x3a029073 ∷ 0x00100337 ∷ 0x10030313 ∷ 0x00032383 ∷ [])) (record no_plan { dwaits = wait 5 5 ∷ [] });
+  setup = runs (program (0x000402b7 ∷ 0x04028293 ∷ 0x3b029073 ∷ 0x09000293 ∷ 0x3a029073 ∷ 0x00100337 ∷ 0x10030313
+      ∷ 0x00032383 ∷ [])) (record no_plan { dwaits = wait 5 5 ∷ [] });
   limit = 16;
   lines =
       Wrote 2 0x00100080 0x000402b7 5 0x00040000
@@ -173,7 +192,8 @@ load_refused = record {
 -- it refuses the second part of a load: no request is made
 abbrev second_refused : Example
 second_refused = record {
-  setup = runs (program (0x000402b7 ∷ 0x04028293 ∷ 0x3b029073 ∷ 0x09000293 ∷ 0x3a029073 ∷ 0x00100337 ∷ 0x10030313 ∷ 0xffe32383 ∷ [])) (record no_plan { dwaits = wait 5 5 ∷ [] });
+  setup = runs (program (0x000402b7 ∷ 0x04028293 ∷ 0x3b029073 ∷ 0x09000293 ∷ 0x3a029073 ∷ 0x00100337 ∷ 0x10030313
+      ∷ 0xffe32383 ∷ [])) (record no_plan { dwaits = wait 5 5 ∷ [] });
   limit = 16;
   lines =
       Wrote 2 0x00100080 0x000402b7 5 0x00040000
@@ -191,7 +211,9 @@ second_refused = record {
 -- it refuses a store: the word is as before
 abbrev store_refused : Example
 store_refused = record {
-  setup = runs (placed (at 0x00100000 (0x00032383 ∷ 0x00020337 ∷ 0x00100393 ∷ 0x00732423 ∷ []) ∷ at 0x00100080 (0x000402b7 ∷ 0x04028293 ∷ 0x3b029073 ∷ 0x09100293 ∷ 0x3a029073 ∷ 0x00100337 ∷ 0x10030313 ∷ 0x00631123 ∷ []) ∷ [])) (record no_plan { dwaits = wait 1 1 ∷ [] });
+  setup = runs (placed (at 0x00100000 (0x00032383 ∷ 0x00020337 ∷ 0x00100393 ∷ 0x00732423 ∷ [])
+      ∷ at 0x00100080 (0x000402b7 ∷ 0x04028293 ∷ 0x3b029073 ∷ 0x09100293 ∷ 0x3a029073 ∷ 0x00100337 ∷ 0x10030313
+      ∷ 0x00631123 ∷ []) ∷ [])) (record no_plan { dwaits = wait 1 1 ∷ [] });
   limit = 24;
   lines =
       Wrote 2 0x00100080 0x000402b7 5 0x00040000
@@ -228,7 +250,8 @@ refused_before_error = record {
 -- it refuses to execute the first parcel
 abbrev execute_refused : Example
 execute_refused = record {
-  setup = runs (program (0x000402b7 ∷ 0x02828293 ∷ 0x3b029073 ∷ 0x09100293 ∷ 0x3a029073 ∷ 0x00100337 ∷ 0x10030313 ∷ 0x00000013 ∷ 0x00000013 ∷ [])) no_plan;
+  setup = runs (program (0x000402b7 ∷ 0x02828293 ∷ 0x3b029073 ∷ 0x09100293 ∷ 0x3a029073 ∷ 0x00100337 ∷ 0x10030313
+      ∷ 0x00000013 ∷ 0x00000013 ∷ [])) no_plan;
   limit = 14;
   lines =
       Wrote 2 0x00100080 0x000402b7 5 0x00040000
@@ -246,7 +269,8 @@ execute_refused = record {
 -- a return to user mode, an instruction, a CSR access that is refused there
 abbrev user_mode : Example
 user_mode = record {
-  setup = runs (program (0x001002b7 ∷ 0x0a028293 ∷ 0x34129073 ∷ 0xfff00313 ∷ 0x3b031073 ∷ 0x01f00313 ∷ 0x3a031073 ∷ 0x30200073 ∷ 0x00100393 ∷ 0x34102473 ∷ [])) no_plan;
+  setup = runs (program (0x001002b7 ∷ 0x0a028293 ∷ 0x34129073 ∷ 0xfff00313 ∷ 0x3b031073 ∷ 0x01f00313 ∷ 0x3a031073
+      ∷ 0x30200073 ∷ 0x00100393 ∷ 0x34102473 ∷ [])) no_plan;
   limit = 18;
   lines =
       Wrote 2 0x00100080 0x001002b7 5 0x00100000
@@ -266,7 +290,8 @@ user_mode = record {
 -- a call out of user mode
 abbrev user_call : Example
 user_call = record {
-  setup = runs (program (0x001002b7 ∷ 0x0a028293 ∷ 0x34129073 ∷ 0xfff00313 ∷ 0x3b031073 ∷ 0x01f00313 ∷ 0x3a031073 ∷ 0x30200073 ∷ 0x00100393 ∷ 0x00000073 ∷ [])) no_plan;
+  setup = runs (program (0x001002b7 ∷ 0x0a028293 ∷ 0x34129073 ∷ 0xfff00313 ∷ 0x3b031073 ∷ 0x01f00313 ∷ 0x3a031073
+      ∷ 0x30200073 ∷ 0x00100393 ∷ 0x00000073 ∷ [])) no_plan;
   limit = 18;
   lines =
       Wrote 2 0x00100080 0x001002b7 5 0x00100000
@@ -286,7 +311,8 @@ user_call = record {
 -- WFI in user mode where TW is 1
 abbrev user_wait : Example
 user_wait = record {
-  setup = runs (program (0x00200437 ∷ 0x30042073 ∷ 0x001002b7 ∷ 0x0a828293 ∷ 0x34129073 ∷ 0xfff00313 ∷ 0x3b031073 ∷ 0x01f00313 ∷ 0x3a031073 ∷ 0x30200073 ∷ 0x10500073 ∷ [])) no_plan;
+  setup = runs (program (0x00200437 ∷ 0x30042073 ∷ 0x001002b7 ∷ 0x0a828293 ∷ 0x34129073 ∷ 0xfff00313 ∷ 0x3b031073
+      ∷ 0x01f00313 ∷ 0x3a031073 ∷ 0x30200073 ∷ 0x10500073 ∷ [])) no_plan;
   limit = 20;
   lines =
       Wrote 2 0x00100080 0x00200437 8 0x00200000
@@ -304,6 +330,17 @@ user_wait = record {
       ∷ [];
 }
 
-agree_in_protection : AllAgree (load_refused ∷ second_refused ∷ store_refused ∷ refused_before_error ∷ execute_refused ∷ user_mode ∷ user_call ∷ user_wait ∷ [])
-unfolding wires_at bus_line story_after ctl_after dummy_word dummy_cost brought_parcels step_with words_there admission item_at access_at taken continued event_at told up_to_halt retired_item item_of dummy_item memory_at written_by sent_by enabled_at is_walked is_cached none_between last_fill is_present found_slot victim fill_grant request_by first_from shown_of gate past issue words last_of redirected words_for admission_for item_for times_for cycles_from made_by done_by done_of kind_at has_answered admitted after_event first_times refused_at error_at stored load store csr_access return_from_trap execute fetch instruction_of with_bytes image_memory operands finished instruction interrupted reset_state alu_of branch_of md_cost_of md_value view_of csr_of csr_reset value_of csr_read put_value csr_can_write csr_write csr_tick counters_after with_trap_regs pending_of enter_of enter_target leave_of allowed bytes_number bits_number loaded lanes_of gather_of request_of expand_of decode_of image_byte waits_of grant_time answer_time lib.Count.count_trailing_zeros lib.Count.count_leading_zeros
+-- and so has each with protection or user mode
+agree_in_protection : AllAgree (load_refused ∷ second_refused ∷ store_refused ∷ refused_before_error ∷ execute_refused
+    ∷ user_mode ∷ user_call ∷ user_wait ∷ [])
+unfolding wires_at bus_line story_after ctl_after dummy_word dummy_cost brought_parcels step_with words_there admission
+    item_at access_at taken continued event_at told up_to_halt retired_item item_of dummy_item memory_at written_by
+    sent_by enabled_at is_walked is_cached none_between last_fill is_present found_slot victim fill_grant request_by
+    first_from shown_of gate past issue words last_of redirected words_for admission_for item_for times_for cycles_from
+    made_by done_by done_of kind_at has_answered admitted after_event first_times refused_at error_at stored load store
+    csr_access return_from_trap execute fetch instruction_of with_bytes image_memory operands finished instruction
+    interrupted reset_state alu_of branch_of md_cost_of md_value view_of csr_of csr_reset value_of csr_read put_value
+    csr_can_write csr_write csr_tick counters_after with_trap_regs pending_of enter_of enter_target leave_of allowed
+    bytes_number bits_number loaded lanes_of gather_of request_of expand_of decode_of image_byte waits_of grant_time
+    answer_time lib.Count.count_trailing_zeros lib.Count.count_leading_zeros
 agree_in_protection = (refl, (refl, (refl, (refl, (refl, (refl, (refl, (refl, tt))))))))

@@ -2,8 +2,10 @@
 use Rattle.std.specs.Prelude.{[], ◌∷◌, refl}
 use Rattle.ibx_elf.specs.Image.{image_byte}
 use Rattle.ibx_isa.specs.declared.insn.MulKind.TheVariants.{Single, Slow}
-use Rattle.ibx_time.proofs.Runs.{Example, AllAgree, Retired, Wrote, Stored, Trapped, Interrupted, at, placed, program, no_plan, wait, lines, runs}
-use Rattle.ibx_time.specs.History.{brought_parcels, words_there, admission, item_at, access_at, taken, continued, event_at, told, up_to_halt}
+use Rattle.ibx_time.proofs.Runs.{Example, AllAgree, Retired, Wrote, Stored, Trapped, Interrupted, at, placed, program}
+use Rattle.ibx_time.proofs.Runs.{no_plan, wait, lines, runs}
+use Rattle.ibx_time.specs.History.{brought_parcels, words_there, admission, item_at, access_at, taken, continued}
+use Rattle.ibx_time.specs.History.{event_at, told, up_to_halt}
 use Rattle.ibx_time.specs.Timeline.{words_for, admission_for, item_for, times_for, cycles_from}
 use Rattle.ibx_time.specs.BusLines.{wires_at, bus_line}
 use Rattle.ibx_time.specs.Chains.{story_after}
@@ -12,7 +14,8 @@ use Rattle.ibx_time.specs.Dummies.{dummy_cost}
 use Rattle.ibx_dummy.specs.Dummies.{dummy_word}
 use Rattle.ibx_time.specs.Items.{retired_item, item_of, dummy_item}
 use Rattle.ibx_time.specs.Memories.{memory_at, written_by, sent_by}
-use Rattle.ibx_time.specs.Requests.{enabled_at, is_walked, is_cached, none_between, last_fill, is_present, found_slot, victim, fill_grant, request_by}
+use Rattle.ibx_time.specs.Requests.{enabled_at, is_walked, is_cached, none_between, last_fill, is_present, found_slot}
+use Rattle.ibx_time.specs.Requests.{victim, fill_grant, request_by}
 use Rattle.ibx_time.specs.Search.{first_from}
 use Rattle.ibx_time.specs.Shown.{shown_of}
 use Rattle.ibx_time.specs.Streams.{gate, past, issue, words, last_of, redirected}
@@ -28,7 +31,8 @@ use Rattle.ibx_isa.specs.Cost.{md_cost_of}
 use Rattle.ibx_isa.specs.Multiply.{md_value}
 use Rattle.ibx_isa.specs.Views.{view_of}
 use Rattle.ibx_csr.specs.Table.{csr_of}
-use Rattle.ibx_csr.specs.Values.{csr_reset, value_of, csr_read, put_value, csr_can_write, csr_write, csr_tick, counters_after, with_trap_regs}
+use Rattle.ibx_csr.specs.Values.{csr_reset, value_of, csr_read, put_value, csr_can_write, csr_write, csr_tick}
+use Rattle.ibx_csr.specs.Values.{counters_after, with_trap_regs}
 use Rattle.ibx_trap.specs.Interrupts.{pending_of}
 use Rattle.ibx_trap.specs.Traps.{enter_of, enter_target, leave_of}
 use Rattle.ibx_pmp.specs.Ranges.{allowed}
@@ -42,7 +46,8 @@ use Rattle.ibx_bus.specs.PortTimes.{waits_of, grant_time, answer_time}
 -- waits before grants and answers, which begin anew
 abbrev waits : Example
 waits = record {
-  setup = runs (program (0x00020337 ∷ 0x00100393 ∷ 0x00732423 ∷ 0x00000013 ∷ 0x00000013 ∷ [])) (record no_plan { iwaits = wait 1 2 ∷ wait 0 0 ∷ wait 2 1 ∷ []; dwaits = wait 3 2 ∷ [] });
+  setup = runs (program (0x00020337 ∷ 0x00100393 ∷ 0x00732423 ∷ 0x00000013 ∷ 0x00000013 ∷ []))
+      (record no_plan { iwaits = wait 1 2 ∷ wait 0 0 ∷ wait 2 1 ∷ []; dwaits = wait 3 2 ∷ [] });
   limit = 40;
   lines =
       Wrote 5 0x00100080 0x00020337 6 0x00020000
@@ -54,7 +59,11 @@ waits = record {
 -- three words wait behind a division, and the next is requested as one is taken
 abbrev full_buffer : Example
 full_buffer = record {
-  setup = runs (program (0x06400293 ∷ 0x00700413 ∷ 0x0282c4b3 ∷ 0x00000013 ∷ 0x00000013 ∷ 0x00c0006f ∷ 0x00000013 ∷ 0x00000013 ∷ 0x00020337 ∷ 0x00100393 ∷ 0x00732423 ∷ [])) (record no_plan { iwaits = wait 1 1 ∷ wait 0 2 ∷ [] });
+  setup = runs (program (0x06400293 ∷ 0x00700413 ∷ 0x0282c4b3 ∷ 0x00000013 ∷ 0x00000013 ∷ 0x00c0006f ∷ 0x00000013
+      ∷ 0x00000013 ∷ 0x00020337 ∷ 0x00100393 ∷ 0x00732423 ∷ [])) (record no_plan {
+        iwaits =
+            wait 1 1 ∷ wait 0 2 ∷ [];
+      });
   limit = 75;
   lines =
       Wrote 4 0x00100080 0x06400293 5 0x00000064
@@ -72,7 +81,8 @@ full_buffer = record {
 -- a full buffer, of which halfwords are taken
 abbrev full_halves : Example
 full_halves = record {
-  setup = runs (program (0x06400293 ∷ 0x00700413 ∷ 0x0282c4b3 ∷ 0x43094285 ∷ 0x4411438d ∷ 0x05134495 ∷ 0x459d0060 ∷ 0x00020337 ∷ 0x00100393 ∷ 0x00732423 ∷ [])) (record no_plan { iwaits = wait 0 1 ∷ [] });
+  setup = runs (program (0x06400293 ∷ 0x00700413 ∷ 0x0282c4b3 ∷ 0x43094285 ∷ 0x4411438d ∷ 0x05134495 ∷ 0x459d0060
+      ∷ 0x00020337 ∷ 0x00100393 ∷ 0x00732423 ∷ [])) (record no_plan { iwaits = wait 0 1 ∷ [] });
   limit = 75;
   lines =
       Wrote 3 0x00100080 0x06400293 5 0x00000064
@@ -94,7 +104,8 @@ full_halves = record {
 -- instructions that cross words, and wait for the second
 abbrev crossing : Example
 crossing = record {
-  setup = runs (program (0x03134285 ∷ 0x03930020 ∷ 0x44110033 ∷ 0x00020337 ∷ 0x00100393 ∷ 0x00732423 ∷ [])) (record no_plan { iwaits = wait 0 2 ∷ wait 1 0 ∷ [] });
+  setup = runs (program (0x03134285 ∷ 0x03930020 ∷ 0x44110033 ∷ 0x00020337 ∷ 0x00100393 ∷ 0x00732423 ∷ []))
+      (record no_plan { iwaits = wait 0 2 ∷ wait 1 0 ∷ [] });
   limit = 40;
   lines =
       Wrote 4 0x00100080 0x00004285 5 0x00000001
@@ -110,7 +121,8 @@ crossing = record {
 -- a jump into the middle of a word
 abbrev into_upper_half : Example
 into_upper_half = record {
-  setup = runs (program (0x0060006f ∷ 0x42850001 ∷ 0x00200313 ∷ 0x03370001 ∷ 0x03930002 ∷ 0x24230010 ∷ 0x00000073 ∷ [])) (record no_plan { iwaits = wait 0 1 ∷ [] });
+  setup = runs (program (0x0060006f ∷ 0x42850001 ∷ 0x00200313 ∷ 0x03370001 ∷ 0x03930002 ∷ 0x24230010 ∷ 0x00000073
+      ∷ [])) (record no_plan { iwaits = wait 0 1 ∷ [] });
   limit = 40;
   lines =
       Retired 3 0x00100080 0x0060006f
@@ -126,7 +138,8 @@ into_upper_half = record {
 -- a jump while a word is awaited: the target waits for its answer
 abbrev in_flight : Example
 in_flight = record {
-  setup = runs (program (0x00c0006f ∷ 0x00000013 ∷ 0x00000013 ∷ 0x00020337 ∷ 0x00100393 ∷ 0x00732423 ∷ [])) (record no_plan { iwaits = wait 0 0 ∷ wait 0 9 ∷ wait 0 0 ∷ [] });
+  setup = runs (program (0x00c0006f ∷ 0x00000013 ∷ 0x00000013 ∷ 0x00020337 ∷ 0x00100393 ∷ 0x00732423 ∷ []))
+      (record no_plan { iwaits = wait 0 0 ∷ wait 0 9 ∷ wait 0 0 ∷ [] });
   limit = 40;
   lines =
       Retired 2 0x00100080 0x00c0006f
@@ -139,7 +152,10 @@ in_flight = record {
 -- an interrupt before the target of a jump is requested
 abbrev twice_in_flight : Example
 twice_in_flight = record {
-  setup = runs (placed (at 0x0010000c (0x0200006f ∷ []) ∷ at 0x0010002c (0x00020337 ∷ 0x00100393 ∷ 0x00732423 ∷ []) ∷ at 0x00100080 (0x30446073 ∷ 0x30046073 ∷ 0x00c0006f ∷ 0x00000013 ∷ 0x00000013 ∷ 0x00020337 ∷ 0x00100393 ∷ 0x00732423 ∷ []) ∷ [])) (record no_plan { iwaits = wait 0 0 ∷ wait 0 0 ∷ wait 0 0 ∷ wait 4 9 ∷ wait 0 1 ∷ []; changes = lines 8 8 ∷ lines 12 0 ∷ [] });
+  setup = runs (placed (at 0x0010000c (0x0200006f ∷ []) ∷ at 0x0010002c (0x00020337 ∷ 0x00100393 ∷ 0x00732423 ∷ [])
+      ∷ at 0x00100080 (0x30446073 ∷ 0x30046073 ∷ 0x00c0006f ∷ 0x00000013 ∷ 0x00000013 ∷ 0x00020337 ∷ 0x00100393
+      ∷ 0x00732423 ∷ []) ∷ [])) (record no_plan
+      { iwaits = wait 0 0 ∷ wait 0 0 ∷ wait 0 0 ∷ wait 4 9 ∷ wait 0 1 ∷ []; changes = lines 8 8 ∷ lines 12 0 ∷ [] });
   limit = 40;
   lines =
       Retired 2 0x00100080 0x30446073
@@ -153,14 +169,26 @@ twice_in_flight = record {
       ∷ [];
 }
 
-agree_in_fetches : AllAgree (waits ∷ full_buffer ∷ full_halves ∷ crossing ∷ into_upper_half ∷ in_flight ∷ twice_in_flight ∷ [])
-unfolding wires_at bus_line story_after ctl_after dummy_word dummy_cost brought_parcels step_with words_there admission item_at access_at taken continued event_at told up_to_halt retired_item item_of dummy_item memory_at written_by sent_by enabled_at is_walked is_cached none_between last_fill is_present found_slot victim fill_grant request_by first_from shown_of gate past issue words last_of redirected words_for admission_for item_for times_for cycles_from made_by done_by done_of kind_at has_answered admitted after_event first_times refused_at error_at stored load store csr_access return_from_trap execute fetch instruction_of with_bytes image_memory operands finished instruction interrupted reset_state alu_of branch_of md_cost_of md_value view_of csr_of csr_reset value_of csr_read put_value csr_can_write csr_write csr_tick counters_after with_trap_regs pending_of enter_of enter_target leave_of allowed bytes_number bits_number loaded lanes_of gather_of request_of expand_of decode_of image_byte waits_of grant_time answer_time lib.Count.count_trailing_zeros lib.Count.count_leading_zeros
+-- each of these runs has the lines that stand in it
+agree_in_fetches : AllAgree (waits ∷ full_buffer ∷ full_halves ∷ crossing ∷ into_upper_half ∷ in_flight
+    ∷ twice_in_flight ∷ [])
+unfolding wires_at bus_line story_after ctl_after dummy_word dummy_cost brought_parcels step_with words_there admission
+    item_at access_at taken continued event_at told up_to_halt retired_item item_of dummy_item memory_at written_by
+    sent_by enabled_at is_walked is_cached none_between last_fill is_present found_slot victim fill_grant request_by
+    first_from shown_of gate past issue words last_of redirected words_for admission_for item_for times_for cycles_from
+    made_by done_by done_of kind_at has_answered admitted after_event first_times refused_at error_at stored load store
+    csr_access return_from_trap execute fetch instruction_of with_bytes image_memory operands finished instruction
+    interrupted reset_state alu_of branch_of md_cost_of md_value view_of csr_of csr_reset value_of csr_read put_value
+    csr_can_write csr_write csr_tick counters_after with_trap_regs pending_of enter_of enter_target leave_of allowed
+    bytes_number bits_number loaded lanes_of gather_of request_of expand_of decode_of image_byte waits_of grant_time
+    answer_time lib.Count.count_trailing_zeros lib.Count.count_leading_zeros
 agree_in_fetches = (refl, (refl, (refl, (refl, (refl, (refl, (refl, tt)))))))
 
 -- the single-cycle multiplier
 abbrev multiplies_single : Example
 multiplies_single = record {
-  setup = record (runs (program (0x00d00293 ∷ 0x01500313 ∷ 0x026283b3 ∷ 0x02629433 ∷ 0x025304b3 ∷ 0x00020337 ∷ 0x00100393 ∷ 0x00732423 ∷ [])) no_plan) { mul = Single };
+  setup = record (runs (program (0x00d00293 ∷ 0x01500313 ∷ 0x026283b3 ∷ 0x02629433 ∷ 0x025304b3 ∷ 0x00020337
+      ∷ 0x00100393 ∷ 0x00732423 ∷ [])) no_plan) { mul = Single };
   limit = 80;
   lines =
       Wrote 2 0x00100080 0x00d00293 5 0x0000000d
@@ -177,7 +205,8 @@ multiplies_single = record {
 -- the fast multiplier
 abbrev multiplies_fast : Example
 multiplies_fast = record {
-  setup = runs (program (0x00d00293 ∷ 0x01500313 ∷ 0x026283b3 ∷ 0x02629433 ∷ 0x025304b3 ∷ 0x00020337 ∷ 0x00100393 ∷ 0x00732423 ∷ [])) no_plan;
+  setup = runs (program (0x00d00293 ∷ 0x01500313 ∷ 0x026283b3 ∷ 0x02629433 ∷ 0x025304b3 ∷ 0x00020337 ∷ 0x00100393
+      ∷ 0x00732423 ∷ [])) no_plan;
   limit = 80;
   lines =
       Wrote 2 0x00100080 0x00d00293 5 0x0000000d
@@ -194,7 +223,8 @@ multiplies_fast = record {
 -- the slow multiplier
 abbrev multiplies_slow : Example
 multiplies_slow = record {
-  setup = record (runs (program (0x00d00293 ∷ 0x01500313 ∷ 0x026283b3 ∷ 0x02629433 ∷ 0x025304b3 ∷ 0x00020337 ∷ 0x00100393 ∷ 0x00732423 ∷ [])) no_plan) { mul = Slow };
+  setup = record (runs (program (0x00d00293 ∷ 0x01500313 ∷ 0x026283b3 ∷ 0x02629433 ∷ 0x025304b3 ∷ 0x00020337
+      ∷ 0x00100393 ∷ 0x00732423 ∷ [])) no_plan) { mul = Slow };
   limit = 80;
   lines =
       Wrote 2 0x00100080 0x00d00293 5 0x0000000d
@@ -211,7 +241,8 @@ multiplies_slow = record {
 -- the slow multiplier with fixed timing
 abbrev multiplies_fixed : Example
 multiplies_fixed = record {
-  setup = record (runs (program (0x7c016073 ∷ 0x00d00293 ∷ 0x01500313 ∷ 0x026283b3 ∷ 0x02629433 ∷ 0x025304b3 ∷ 0x00020337 ∷ 0x00100393 ∷ 0x00732423 ∷ [])) no_plan) { mul = Slow };
+  setup = record (runs (program (0x7c016073 ∷ 0x00d00293 ∷ 0x01500313 ∷ 0x026283b3 ∷ 0x02629433 ∷ 0x025304b3
+      ∷ 0x00020337 ∷ 0x00100393 ∷ 0x00732423 ∷ [])) no_plan) { mul = Slow };
   limit = 125;
   lines =
       Retired 2 0x00100080 0x7c016073
@@ -226,14 +257,26 @@ multiplies_fixed = record {
       ∷ [];
 }
 
+-- and so has each with a multiplication
 agree_in_costs : AllAgree (multiplies_single ∷ multiplies_fast ∷ multiplies_slow ∷ multiplies_fixed ∷ [])
-unfolding wires_at bus_line story_after ctl_after dummy_word dummy_cost brought_parcels step_with words_there admission item_at access_at taken continued event_at told up_to_halt retired_item item_of dummy_item memory_at written_by sent_by enabled_at is_walked is_cached none_between last_fill is_present found_slot victim fill_grant request_by first_from shown_of gate past issue words last_of redirected words_for admission_for item_for times_for cycles_from made_by done_by done_of kind_at has_answered admitted after_event first_times refused_at error_at stored load store csr_access return_from_trap execute fetch instruction_of with_bytes image_memory operands finished instruction interrupted reset_state alu_of branch_of md_cost_of md_value view_of csr_of csr_reset value_of csr_read put_value csr_can_write csr_write csr_tick counters_after with_trap_regs pending_of enter_of enter_target leave_of allowed bytes_number bits_number loaded lanes_of gather_of request_of expand_of decode_of image_byte waits_of grant_time answer_time lib.Count.count_trailing_zeros lib.Count.count_leading_zeros
+unfolding wires_at bus_line story_after ctl_after dummy_word dummy_cost brought_parcels step_with words_there admission
+    item_at access_at taken continued event_at told up_to_halt retired_item item_of dummy_item memory_at written_by
+    sent_by enabled_at is_walked is_cached none_between last_fill is_present found_slot victim fill_grant request_by
+    first_from shown_of gate past issue words last_of redirected words_for admission_for item_for times_for cycles_from
+    made_by done_by done_of kind_at has_answered admitted after_event first_times refused_at error_at stored load store
+    csr_access return_from_trap execute fetch instruction_of with_bytes image_memory operands finished instruction
+    interrupted reset_state alu_of branch_of md_cost_of md_value view_of csr_of csr_reset value_of csr_read put_value
+    csr_can_write csr_write csr_tick counters_after with_trap_regs pending_of enter_of enter_target leave_of allowed
+    bytes_number bits_number loaded lanes_of gather_of request_of expand_of decode_of image_byte waits_of grant_time
+    answer_time lib.Count.count_trailing_zeros lib.Count.count_leading_zeros
 agree_in_costs = (refl, (refl, (refl, (refl, tt))))
 
 -- an interrupt while the words of an instruction are awaited
 abbrev awaiting : Example
 awaiting = record {
-  setup = runs (placed (at 0x0010000c (0x30200073 ∷ []) ∷ at 0x00100080 (0x30446073 ∷ 0x30046073 ∷ 0x00000013 ∷ 0x00020337 ∷ 0x00100393 ∷ 0x00732423 ∷ []) ∷ [])) (record no_plan { iwaits = wait 0 0 ∷ wait 0 1 ∷ wait 0 20 ∷ []; changes = lines 8 8 ∷ lines 9 0 ∷ [] });
+  setup = runs (placed (at 0x0010000c (0x30200073 ∷ [])
+      ∷ at 0x00100080 (0x30446073 ∷ 0x30046073 ∷ 0x00000013 ∷ 0x00020337 ∷ 0x00100393 ∷ 0x00732423 ∷ []) ∷ []))
+      (record no_plan { iwaits = wait 0 0 ∷ wait 0 1 ∷ wait 0 20 ∷ []; changes = lines 8 8 ∷ lines 9 0 ∷ [] });
   limit = 60;
   lines =
       Retired 2 0x00100080 0x30446073
@@ -249,7 +292,9 @@ awaiting = record {
 -- WFI ends where a line that is enabled rises, and the interrupt follows
 abbrev sleeps : Example
 sleeps = record {
-  setup = runs (placed (at 0x0010000c (0x341022f3 ∷ 0x30200073 ∷ []) ∷ at 0x00100080 (0x30446073 ∷ 0x30046073 ∷ 0x10500073 ∷ 0x00020337 ∷ 0x00100393 ∷ 0x00732423 ∷ []) ∷ [])) (record no_plan { changes = lines 1 128 ∷ lines 20 8 ∷ lines 24 0 ∷ [] });
+  setup = runs (placed (at 0x0010000c (0x341022f3 ∷ 0x30200073 ∷ [])
+      ∷ at 0x00100080 (0x30446073 ∷ 0x30046073 ∷ 0x10500073 ∷ 0x00020337 ∷ 0x00100393 ∷ 0x00732423 ∷ []) ∷ []))
+      (record no_plan { changes = lines 1 128 ∷ lines 20 8 ∷ lines 24 0 ∷ [] });
   limit = 40;
   lines =
       Retired 2 0x00100080 0x30446073
@@ -267,7 +312,8 @@ sleeps = record {
 -- WFI ends without an interrupt where MIE is 0
 abbrev wakes : Example
 wakes = record {
-  setup = runs (program (0x30446073 ∷ 0x10500073 ∷ 0x00020337 ∷ 0x00100393 ∷ 0x00732423 ∷ [])) (record no_plan { changes = lines 20 8 ∷ [] });
+  setup = runs (program (0x30446073 ∷ 0x10500073 ∷ 0x00020337 ∷ 0x00100393 ∷ 0x00732423 ∷ []))
+      (record no_plan { changes = lines 20 8 ∷ [] });
   limit = 40;
   lines =
       Retired 2 0x00100080 0x30446073
@@ -281,7 +327,8 @@ wakes = record {
 -- WFI that no line ends
 abbrev sleeps_on : Example
 sleeps_on = record {
-  setup = runs (program (0x30446073 ∷ 0x10500073 ∷ 0x00020337 ∷ 0x00100393 ∷ 0x00732423 ∷ [])) (record no_plan { changes = lines 3 128 ∷ [] });
+  setup = runs (program (0x30446073 ∷ 0x10500073 ∷ 0x00020337 ∷ 0x00100393 ∷ 0x00732423 ∷ []))
+      (record no_plan { changes = lines 3 128 ∷ [] });
   limit = 40;
   lines =
       Retired 2 0x00100080 0x30446073
@@ -291,7 +338,9 @@ sleeps_on = record {
 -- an interrupt comes before a dummy that is due
 abbrev before_dummy : Example
 before_dummy = record {
-  setup = runs (placed (at 0x0010000c (0x30200073 ∷ []) ∷ at 0x00100080 (0x30446073 ∷ 0x7c026073 ∷ 0x30046073 ∷ 0x00000013 ∷ 0x00000013 ∷ 0x00000013 ∷ 0x00020337 ∷ 0x00100393 ∷ 0x00732423 ∷ []) ∷ [])) (record no_plan { changes = lines 4 8 ∷ lines 6 0 ∷ [] });
+  setup = runs (placed (at 0x0010000c (0x30200073 ∷ [])
+      ∷ at 0x00100080 (0x30446073 ∷ 0x7c026073 ∷ 0x30046073 ∷ 0x00000013 ∷ 0x00000013 ∷ 0x00000013 ∷ 0x00020337
+      ∷ 0x00100393 ∷ 0x00732423 ∷ []) ∷ [])) (record no_plan { changes = lines 4 8 ∷ lines 6 0 ∷ [] });
   limit = 30;
   lines =
       Retired 2 0x00100080 0x30446073
@@ -308,14 +357,27 @@ before_dummy = record {
       ∷ [];
 }
 
+-- and each with an interrupt or a wait
 agree_in_interrupts : AllAgree (awaiting ∷ sleeps ∷ wakes ∷ sleeps_on ∷ before_dummy ∷ [])
-unfolding wires_at bus_line story_after ctl_after dummy_word dummy_cost brought_parcels step_with words_there admission item_at access_at taken continued event_at told up_to_halt retired_item item_of dummy_item memory_at written_by sent_by enabled_at is_walked is_cached none_between last_fill is_present found_slot victim fill_grant request_by first_from shown_of gate past issue words last_of redirected words_for admission_for item_for times_for cycles_from made_by done_by done_of kind_at has_answered admitted after_event first_times refused_at error_at stored load store csr_access return_from_trap execute fetch instruction_of with_bytes image_memory operands finished instruction interrupted reset_state alu_of branch_of md_cost_of md_value view_of csr_of csr_reset value_of csr_read put_value csr_can_write csr_write csr_tick counters_after with_trap_regs pending_of enter_of enter_target leave_of allowed bytes_number bits_number loaded lanes_of gather_of request_of expand_of decode_of image_byte waits_of grant_time answer_time lib.Count.count_trailing_zeros lib.Count.count_leading_zeros
+unfolding wires_at bus_line story_after ctl_after dummy_word dummy_cost brought_parcels step_with words_there admission
+    item_at access_at taken continued event_at told up_to_halt retired_item item_of dummy_item memory_at written_by
+    sent_by enabled_at is_walked is_cached none_between last_fill is_present found_slot victim fill_grant request_by
+    first_from shown_of gate past issue words last_of redirected words_for admission_for item_for times_for cycles_from
+    made_by done_by done_of kind_at has_answered admitted after_event first_times refused_at error_at stored load store
+    csr_access return_from_trap execute fetch instruction_of with_bytes image_memory operands finished instruction
+    interrupted reset_state alu_of branch_of md_cost_of md_value view_of csr_of csr_reset value_of csr_read put_value
+    csr_can_write csr_write csr_tick counters_after with_trap_regs pending_of enter_of enter_target leave_of allowed
+    bytes_number bits_number loaded lanes_of gather_of request_of expand_of decode_of image_byte waits_of grant_time
+    answer_time lib.Count.count_trailing_zeros lib.Count.count_leading_zeros
 agree_in_interrupts = (refl, (refl, (refl, (refl, (refl, tt)))))
 
 -- dummies before and after jumps and a taken branch
 abbrev around_jumps : Example
 around_jumps = record {
-  setup = runs (program (0x7c026073 ∷ 0x0080006f ∷ 0x00000013 ∷ 0x00000013 ∷ 0x00000463 ∷ 0x00000013 ∷ 0x00000013 ∷ 0x0080006f ∷ 0x00000013 ∷ 0x00000013 ∷ 0x00000013 ∷ 0x00000013 ∷ 0x00000013 ∷ 0x00020337 ∷ 0x00100393 ∷ 0x00732423 ∷ [])) (record no_plan { iwaits = wait 0 1 ∷ wait 0 0 ∷ [] });
+  setup = runs (program (0x7c026073 ∷ 0x0080006f ∷ 0x00000013 ∷ 0x00000013 ∷ 0x00000463 ∷ 0x00000013 ∷ 0x00000013
+      ∷ 0x0080006f ∷ 0x00000013 ∷ 0x00000013 ∷ 0x00000013 ∷ 0x00000013 ∷ 0x00000013 ∷ 0x00020337 ∷ 0x00100393
+      ∷ 0x00732423
+      ∷ [])) (record no_plan { iwaits = wait 0 1 ∷ wait 0 0 ∷ [] });
   limit = 60;
   lines =
       Retired 3 0x00100080 0x7c026073
@@ -334,7 +396,9 @@ around_jumps = record {
 -- dummies around a trap and MRET
 abbrev after_trap : Example
 after_trap = record {
-  setup = runs (placed (at 0x00100000 (0x341022f3 ∷ 0x00428293 ∷ 0x34129073 ∷ 0x30200073 ∷ []) ∷ at 0x00100080 (0x7c026073 ∷ 0x00000073 ∷ 0x00000013 ∷ 0x00020337 ∷ 0x00100393 ∷ 0x00732423 ∷ []) ∷ [])) no_plan;
+  setup = runs (placed (at 0x00100000 (0x341022f3 ∷ 0x00428293 ∷ 0x34129073 ∷ 0x30200073 ∷ [])
+      ∷ at 0x00100080 (0x7c026073 ∷ 0x00000073 ∷ 0x00000013 ∷ 0x00020337 ∷ 0x00100393 ∷ 0x00732423 ∷ []) ∷ []))
+      no_plan;
   limit = 60;
   lines =
       Retired 2 0x00100080 0x7c026073
@@ -353,7 +417,8 @@ after_trap = record {
 -- dummies of each kind after another, by the seed: DIV, MUL, ADD, and AND of the first seed
 abbrev seeded : Example
 seeded = record {
-  setup = runs (program (0x000102b7 ∷ 0x7c026073 ∷ 0x7c129073 ∷ 0x00000013 ∷ 0x7c105073 ∷ 0x00020337 ∷ 0x00100393 ∷ 0x00732423 ∷ [])) no_plan;
+  setup = runs (program (0x000102b7 ∷ 0x7c026073 ∷ 0x7c129073 ∷ 0x00000013 ∷ 0x7c105073 ∷ 0x00020337 ∷ 0x00100393
+      ∷ 0x00732423 ∷ [])) no_plan;
   limit = 90;
   lines =
       Wrote 2 0x00100080 0x000102b7 5 0x00010000
@@ -370,7 +435,8 @@ seeded = record {
 -- dummies with the slow multiplier
 abbrev seeded_slow : Example
 seeded_slow = record {
-  setup = record (runs (program (0x000082b7 ∷ 0x7c026073 ∷ 0x7c129073 ∷ 0x7c027073 ∷ 0x00020337 ∷ 0x00100393 ∷ 0x00732423 ∷ [])) no_plan) { mul = Slow };
+  setup = record (runs (program (0x000082b7 ∷ 0x7c026073 ∷ 0x7c129073 ∷ 0x7c027073 ∷ 0x00020337 ∷ 0x00100393
+      ∷ 0x00732423 ∷ [])) no_plan) { mul = Slow };
   limit = 75;
   lines =
       Wrote 2 0x00100080 0x000082b7 5 0x00008000
@@ -386,7 +452,10 @@ seeded_slow = record {
 -- a mask that makes dummies rarer
 abbrev masked : Example
 masked = record {
-  setup = runs (program (0x7c0e6073 ∷ 0x00000013 ∷ 0x00000013 ∷ 0x00000013 ∷ 0x00000013 ∷ 0x00000013 ∷ 0x00000013 ∷ 0x00000013 ∷ 0x00000013 ∷ 0x00000013 ∷ 0x00000013 ∷ 0x00000013 ∷ 0x00000013 ∷ 0x00020337 ∷ 0x00100393 ∷ 0x00732423 ∷ [])) no_plan;
+  setup = runs (program (0x7c0e6073 ∷ 0x00000013 ∷ 0x00000013 ∷ 0x00000013 ∷ 0x00000013 ∷ 0x00000013 ∷ 0x00000013
+      ∷ 0x00000013 ∷ 0x00000013 ∷ 0x00000013 ∷ 0x00000013 ∷ 0x00000013 ∷ 0x00000013 ∷ 0x00020337 ∷ 0x00100393
+      ∷ 0x00732423
+      ∷ [])) no_plan;
   limit = 60;
   lines =
       Retired 2 0x00100080 0x7c0e6073
@@ -408,6 +477,16 @@ masked = record {
       ∷ [];
 }
 
+-- and each with dummies
 agree_in_dummies : AllAgree (around_jumps ∷ after_trap ∷ seeded ∷ seeded_slow ∷ masked ∷ [])
-unfolding wires_at bus_line story_after ctl_after dummy_word dummy_cost brought_parcels step_with words_there admission item_at access_at taken continued event_at told up_to_halt retired_item item_of dummy_item memory_at written_by sent_by enabled_at is_walked is_cached none_between last_fill is_present found_slot victim fill_grant request_by first_from shown_of gate past issue words last_of redirected words_for admission_for item_for times_for cycles_from made_by done_by done_of kind_at has_answered admitted after_event first_times refused_at error_at stored load store csr_access return_from_trap execute fetch instruction_of with_bytes image_memory operands finished instruction interrupted reset_state alu_of branch_of md_cost_of md_value view_of csr_of csr_reset value_of csr_read put_value csr_can_write csr_write csr_tick counters_after with_trap_regs pending_of enter_of enter_target leave_of allowed bytes_number bits_number loaded lanes_of gather_of request_of expand_of decode_of image_byte waits_of grant_time answer_time lib.Count.count_trailing_zeros lib.Count.count_leading_zeros
+unfolding wires_at bus_line story_after ctl_after dummy_word dummy_cost brought_parcels step_with words_there admission
+    item_at access_at taken continued event_at told up_to_halt retired_item item_of dummy_item memory_at written_by
+    sent_by enabled_at is_walked is_cached none_between last_fill is_present found_slot victim fill_grant request_by
+    first_from shown_of gate past issue words last_of redirected words_for admission_for item_for times_for cycles_from
+    made_by done_by done_of kind_at has_answered admitted after_event first_times refused_at error_at stored load store
+    csr_access return_from_trap execute fetch instruction_of with_bytes image_memory operands finished instruction
+    interrupted reset_state alu_of branch_of md_cost_of md_value view_of csr_of csr_reset value_of csr_read put_value
+    csr_can_write csr_write csr_tick counters_after with_trap_regs pending_of enter_of enter_target leave_of allowed
+    bytes_number bits_number loaded lanes_of gather_of request_of expand_of decode_of image_byte waits_of grant_time
+    answer_time lib.Count.count_trailing_zeros lib.Count.count_leading_zeros
 agree_in_dummies = (refl, (refl, (refl, (refl, (refl, tt)))))

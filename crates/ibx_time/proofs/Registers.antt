@@ -23,6 +23,7 @@ is_loose _ = true
 
 -- ---- the two kinds of register
 
+-- a control register is steady, and any other one loose: by the register, and by its address
 steady_if : (o : Option Csr) → is_control_in o ≡ true → is_steady o ≡ true
 steady_if (Some Mip) e = absurd (cc)
 steady_if (Some Mcycle) e = absurd (cc)
@@ -45,11 +46,14 @@ other_loose a e = loose_if (csr_of a) e
 
 -- the same from a mode
 
-readable_by : (p : Option Csr → Bool) (machine : Bool) (o : Option Csr) → p None ≡ true → p o ≡ true → p (if machine then o else None) ≡ true
+-- where it can't be read or written from a mode there is none
+readable_by : (p : Option Csr → Bool) (machine : Bool) (o : Option Csr) → p None ≡ true → p o ≡ true
+    → p (if machine then o else None) ≡ true
 readable_by p true o n e = e
 readable_by p false o n e = n
 
-writable_by : (p : Option Csr → Bool) (hidden : Bool) (o : Option Csr) → p None ≡ true → p o ≡ true → p (if hidden then None else o) ≡ true
+writable_by : (p : Option Csr → Bool) (hidden : Bool) (o : Option Csr) → p None ≡ true → p o ≡ true
+    → p (if hidden then None else o) ≡ true
 writable_by p true o n e = n
 writable_by p false o n e = e
 
@@ -57,4 +61,5 @@ pub readable_steady : (machine : Bool) (a : ℕ) → is_control_at a ≡ true �
 readable_steady machine a e = readable_by is_steady machine (csr_of a) refl (control_steady a e)
 
 pub writable_loose : (machine : Bool) (a : ℕ) → is_control_at a ≡ false → is_loose (writable machine a) ≡ true
-writable_loose machine a e = writable_by is_loose (is_read_only a) (readable machine a) refl (readable_by is_loose machine (csr_of a) refl (other_loose a e))
+writable_loose machine a e = writable_by is_loose (is_read_only a) (readable machine a) refl
+    (readable_by is_loose machine (csr_of a) refl (other_loose a e))

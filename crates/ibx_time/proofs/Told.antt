@@ -18,15 +18,21 @@ use Rattle.ibx_time.proofs.Settled.{IsBefore, story_before, story_memory}
 abbrev pub IsAfter : Setup → ℕ → Story → Type 0
 IsAfter s limit h = (j : ℕ) × (h ≡ story_after s limit j)
 
-after_by : (s : Setup) (limit n m : ℕ) (b : Bool) → nat_lt (done_at s limit (admission s limit (story_after s limit m)) (story_after s limit m)) limit ≡ b
-    → IsAfter s limit (told s limit n (continued s limit (admission s limit (story_after s limit m)) (story_after s limit m))).story → IsAfter s limit (told s limit (suc n) (story_after s limit m)).story
+-- telling one item more leaves the story after one item more
+after_by : (s : Setup) (limit n m : ℕ) (b : Bool)
+    → nat_lt (done_at s limit (admission s limit (story_after s limit m)) (story_after s limit m)) limit ≡ b
+    → IsAfter s limit (told s limit n
+    (continued s limit (admission s limit (story_after s limit m)) (story_after s limit m))).story
+    → IsAfter s limit (told s limit (suc n) (story_after s limit m)).story
 after_by s limit n m true e rest = (rest.0, left_is s limit n (story_after s limit m) true e ∙ rest.1)
 after_by s limit n m false e rest = (m, left_is s limit n (story_after s limit m) false e)
 
+-- telling none leaves the story
 none_told : (s : Setup) (limit : ℕ) (h : Story) → (told s limit zero h).story ≡ h
 unfolding told
 none_told s limit h = refl
 
+-- so the story that is left is that after some number of items, for any number told and for a history
 pub told_after : (s : Setup) (limit n m : ℕ) → IsAfter s limit (told s limit n (story_after s limit m)).story
 told_after s limit zero m = (m, none_told s limit (story_after s limit m))
 told_after s limit (suc n) m =
@@ -35,7 +41,8 @@ told_after s limit (suc n) m =
     (subst (λ x. IsAfter s limit (told s limit n x).story) (after_suc s limit m) (told_after s limit n (suc m)))
 
 pub below_after : (s : Setup) (limit : ℕ) → IsAfter s limit (told_below s limit).story
-below_after s limit = subst (λ x. IsAfter s limit (told s limit limit x).story) (after_zero s limit) (told_after s limit limit zero)
+below_after s limit =
+    subst (λ x. IsAfter s limit (told s limit limit x).story) (after_zero s limit) (told_after s limit limit zero)
 
 -- the times and the state of a story agree, and its state is valid
 pub record IsStory (s : Setup) (h : Story) : Type 0 where
@@ -46,6 +53,7 @@ pub record IsStory (s : Setup) (h : Story) : Type 0 where
   pub before : IsBefore h.writes h.done
   pub memory : (c : ℕ) → h.done ≤ c → h.state.memory ≡ memory_at (image_memory s.image) h.writes c
 
+-- along a story, and for what a history leaves
 pub story_holds : (s : Setup) (limit n : ℕ) → IsSane s → IsStory s (story_after s limit n)
 story_holds s limit n ok = record {
   ctl = story_ctl s limit n;

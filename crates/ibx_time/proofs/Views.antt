@@ -11,7 +11,8 @@ use Rattle.ibx_arch.specs.Effects.{Executed, execute, trap, illegal}
 use Rattle.ibx_arch.specs.Fetch.{fetch}
 use Rattle.ibx_decoder.specs.Instructions.{instruction_of}
 use Rattle.ibx_arch.specs.State.{State, at_cycle}
-use Rattle.ibx_arch.specs.Step.{Choice, Interrupt, Parcels, after_fetch, decoded, stepped_by, finished, instruction, interrupted, operands, step_with}
+use Rattle.ibx_arch.specs.Step.{Choice, Interrupt, Parcels, after_fetch, decoded, stepped_by, finished, instruction}
+use Rattle.ibx_arch.specs.Step.{interrupted, operands, step_with}
 use Rattle.ibx_time.specs.Settings.{Settings, Setup, settings_of, lines_in}
 use Rattle.ibx_time.specs.Cycles.{cycle_of}
 use Rattle.ibx_time.specs.History.{Story, view_with, brought, brought_parcels}
@@ -22,42 +23,54 @@ pub record IsOf (pc c : ℕ) (e : Event) : Type 0 where
   pub same_cycle : cycle_of e ≡ c
   pub real : ((view_of e).kind == 2) ≡ false
 
-ended_is : (pc : ℕ) (regs : List ℕ) (c word : ℕ) (ops : Option (ℕ × ℕ)) (after : Executed) (d : Done) → IsOf pc c (stepped_by pc regs c word ops after d).event
+-- an instruction's event is such a one, from how it ended up to its parcels
+ended_is : (pc : ℕ) (regs : List ℕ) (c word : ℕ) (ops : Option (ℕ × ℕ)) (after : Executed) (d : Done)
+    → IsOf pc c (stepped_by pc regs c word ops after d).event
 unfolding view_of
 ended_is pc regs c word ops after (Retires r) = record { same_pc = refl; same_cycle = refl; real = refl }
 ended_is pc regs c word ops after (Traps cause tval addr) = record { same_pc = refl; same_cycle = refl; real = refl }
 
-decoded_is : (s : State) (c word length lines : ℕ) (o : Option Insn) → IsOf s.pc c (decoded s c word length lines o).event
+decoded_is : (s : State) (c word length lines : ℕ) (o : Option Insn)
+    → IsOf s.pc c (decoded s c word length lines o).event
 unfolding finished
 decoded_is s c word length lines None = ended_is s.pc s.regs c word None (illegal s word) (illegal s word).done
-decoded_is s c word length lines (Some insn) = ended_is s.pc s.regs c word (operands s insn) (execute s insn word length lines) (execute s insn word length lines).done
+decoded_is s c word length lines (Some insn) =
+    ended_is s.pc s.regs c word (operands s insn) (execute s insn word length lines)
+    (execute s insn word length lines).done
 
 fetched_is : (s : State) (c lines : ℕ) (f : Fetched) → IsOf s.pc c (after_fetch s c lines f).event
 unfolding finished
 fetched_is s c lines (Unsound addr) = ended_is s.pc s.regs c 0 None (trap s 1 addr 0) (trap s 1 addr 0).done
 fetched_is s c lines (Instruction word length) = decoded_is s c word length lines (instruction_of word)
 
-pub parcels_are : (k : Settings) (s : State) (first second c : ℕ) → IsOf s.pc c (step_with (lines_in k) s (Parcels first second) c).event
+pub parcels_are : (k : Settings) (s : State) (first second c : ℕ)
+    → IsOf s.pc c (step_with (lines_in k) s (Parcels first second) c).event
 unfolding step_with instruction
 parcels_are k s first second c = fetched_is (at_cycle s c) c (lines_in k c) (fetch (at_cycle s c) first second)
 
-pub interrupt_pc : (k : Settings) (s : State) (number c : ℕ) → (view_of (step_with (lines_in k) s (Interrupt number) c).event).pc ≡ s.pc
+-- an interrupt's view has the program counter and the kind of one, and its event the cycle
+pub interrupt_pc : (k : Settings) (s : State) (number c : ℕ)
+    → (view_of (step_with (lines_in k) s (Interrupt number) c).event).pc ≡ s.pc
 unfolding step_with interrupted view_of
 interrupt_pc k s number c = refl
 
-pub interrupt_cycle : (k : Settings) (s : State) (number c : ℕ) → cycle_of (step_with (lines_in k) s (Interrupt number) c).event ≡ c
+pub interrupt_cycle : (k : Settings) (s : State) (number c : ℕ)
+    → cycle_of (step_with (lines_in k) s (Interrupt number) c).event ≡ c
 unfolding step_with interrupted
 interrupt_cycle k s number c = refl
 
-pub interrupt_kind : (k : Settings) (s : State) (number c : ℕ) → ((view_of (step_with (lines_in k) s (Interrupt number) c).event).kind == 2) ≡ true
+pub interrupt_kind : (k : Settings) (s : State) (number c : ℕ)
+    → ((view_of (step_with (lines_in k) s (Interrupt number) c).event).kind == 2) ≡ true
 unfolding step_with interrupted view_of
 interrupt_kind k s number c = refl
 
+-- so it is for the steps of a history
 pub view_pc : (s : Setup) (h : Story) (choice : Choice) → (view_with s h choice).pc ≡ h.state.pc
 view_pc s h (Interrupt number) = interrupt_pc (settings_of s) h.state number h.state.stands
 view_pc s h (Parcels first second) = (parcels_are (settings_of s) h.state first second h.state.stands).same_pc
 
-pub event_cycle : (s : Setup) (h : Story) (choice : Choice) (d : ℕ) → cycle_of (step_with (lines_in (settings_of s)) h.state choice d).event ≡ d
+pub event_cycle : (s : Setup) (h : Story) (choice : Choice) (d : ℕ)
+    → cycle_of (step_with (lines_in (settings_of s)) h.state choice d).event ≡ d
 event_cycle s h (Interrupt number) d = interrupt_cycle (settings_of s) h.state number d
 event_cycle s h (Parcels first second) d = (parcels_are (settings_of s) h.state first second d).same_cycle
 
@@ -66,4 +79,5 @@ view_interrupt s h number = interrupt_kind (settings_of s) h.state number h.stat
 
 pub view_real : (s : Setup) (h : Story) → ((view_with s h (brought_parcels s h)).kind == 2) ≡ false
 unfolding brought_parcels
-view_real s h = (parcels_are (settings_of s) h.state (brought s h (length h.times.stream.enters) h.state.pc) (brought s h (length h.times.stream.enters + h.times.half) ((h.state.pc + 2) % 2 ^ 32)) h.state.stands).real
+view_real s h = (parcels_are (settings_of s) h.state (brought s h (length h.times.stream.enters) h.state.pc)
+    (brought s h (length h.times.stream.enters + h.times.half) ((h.state.pc + 2) % 2 ^ 32)) h.state.stands).real

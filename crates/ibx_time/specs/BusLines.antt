@@ -7,6 +7,7 @@ use Rattle.ibx_time.specs.Requests.{Transaction}
 use Rattle.ibx_time.specs.Streams.{past, requested}
 use Rattle.ibx_time.specs.History.{Story, told_below, open_item, with_item}
 
+-- a port's wires in a cycle: those of the transaction that is being driven, if one is
 unfoldable pub wires_at : List Transaction → ℕ → Req
 wires_at [] c = no_request
 wires_at (x ∷ sent) c = if nat_le x.issue c && nat_le c x.grant then x.wires else wires_at sent c
@@ -15,6 +16,7 @@ wires_at (x ∷ sent) c = if nat_le x.issue c && nat_le c x.grant then x.wires e
 abbrev pub fetches : Setup → Story → ℕ → List Transaction
 fetches s h t = (past (settings_of s) h.times.stream (requested (settings_of s) h.times.stream t)).sent
 
+-- the wires of both ports
 pub record BusLine : Type 0 where
   pub fetch : Req
   pub load_store : Req

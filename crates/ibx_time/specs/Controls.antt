@@ -17,8 +17,16 @@ pub record Ctl : Type 0 where
   pub pmpcfg : List ℕ
   pub pmpaddr : List ℕ
 
+-- those of all registers
 abbrev pub ctl_of : CsrValues → Ctl
-ctl_of v = record { machine = v.machine; mstatus = v.mstatus; mie = v.mie; cpuctrl = v.cpuctrl; pmpcfg = v.pmpcfg; pmpaddr = v.pmpaddr }
+ctl_of v = record {
+  machine = v.machine;
+  mstatus = v.mstatus;
+  mie = v.mie;
+  cpuctrl = v.cpuctrl;
+  pmpcfg = v.pmpcfg;
+  pmpaddr = v.pmpaddr;
+}
 
 -- the same among all registers, of which the others are 0
 abbrev pub values_of : Ctl → CsrValues
@@ -39,6 +47,7 @@ values_of c = record {
   pmpaddr = c.pmpaddr;
 }
 
+-- their reset values
 abbrev pub ctl_reset : Ctl
 ctl_reset = ctl_of (csr_reset 0)
 
@@ -46,6 +55,7 @@ ctl_reset = ctl_of (csr_reset 0)
 abbrev pub enables_cache : Ctl → Bool
 enables_cache c = not (bit_and c.cpuctrl icache_enable == 0)
 
+-- timing doesn't depend on operands
 abbrev pub is_fixed : Ctl → Bool
 is_fixed c = not (bit_and c.cpuctrl data_ind_timing == 0)
 
@@ -63,6 +73,7 @@ ctl_left c = ctl_of (with_trap_regs (values_of c) (leave_of (trap_regs (values_o
 abbrev pub ctl_written : Ctl → ℕ → ℕ → Ctl
 ctl_written c addr value = ctl_of (csr_write (values_of c) addr value)
 
+-- after an instruction that retired: MRET and the write of a CSR alone change them
 abbrev pub ctl_retired : Ctl → Option Insn → Option ℕ → Ctl
 ctl_retired c (Some Mret) written = ctl_left c
 ctl_retired c (Some (Csr op rd src imm addr)) (Some value) = ctl_written c addr value

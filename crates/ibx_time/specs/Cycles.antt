@@ -7,6 +7,7 @@ use Rattle.ibx_time.specs.Settings.{Setup, settings_of}
 use Rattle.ibx_time.specs.Timeline.{timeline}
 use Rattle.ibx_time.specs.History.{history, story, told_below}
 
+-- the cycle in which an event was done
 abbrev pub cycle_of : Event → ℕ
 cycle_of (Retire cycle pc word rd value mem ctl ops) = cycle
 cycle_of (Trap cycle pc word cause tval addr) = cycle
@@ -15,7 +16,8 @@ cycle_of (Irq cycle pc cause) = cycle
 -- the cycles of the history are those of its views
 abbrev pub IsTimed : Setup → Type 0
 IsTimed s =
-    (n : ℕ) → map cycle_of (history s n) ≡ timeline (settings_of s) s.image.entry n (map view_of (history s n)) (told_below s n).story.state.pc
+    (n : ℕ) → map cycle_of (history s n)
+    ≡ timeline (settings_of s) s.image.entry n (map view_of (history s n)) (told_below s n).story.state.pc
 
 -- two histories with equal settings whose first k views agree have the same first k cycles
 abbrev pub EqualViewsEqualCycles : Type 0

@@ -1,4 +1,5 @@
--- Dummy instructions: what cpuctrl tells their unit, what they cost, and what an event leaves of the unit. Our own rule.
+-- Dummy instructions: what cpuctrl tells their unit, what they cost, and what an event leaves of the unit. Our own
+-- rule.
 use Rattle.std.specs.Prelude.{ℕ, ◌/◌, Bool, true, not, ◌==◌, if◌then◌else◌, Option, Some, bit_and}
 use Rattle.ibx_isa.specs.declared.insn.Insn.{Insn}
 use Rattle.ibx_isa.specs.declared.insn.Insn.TheVariants.{Csr}
@@ -12,6 +13,7 @@ use Rattle.ibx_dummy.specs.Dummies.{is_due, counted_by, seeded}
 use Rattle.ibx_time.specs.Controls.{Ctl}
 use Rattle.ibx_isa.specs.ControlBits.{dummy_instr_en, dummy_instr_mask}
 
+-- dummies come, and with this mask of their distance
 abbrev pub enables_dummies : Ctl → Bool
 enables_dummies c = not (bit_and c.cpuctrl dummy_instr_en == 0)
 
@@ -38,5 +40,6 @@ abbrev pub seed_by : Dummy → Option Insn → Option ℕ → Dummy
 seed_by d (Some (Csr op rd src imm addr)) (Some value) = if addr == 0x7c1 then seeded value d else d
 seed_by d insn written = d
 
+-- the dummies after an event with this view: only a retired instruction may seed them
 abbrev pub dummies_after : Dummy → View → Dummy
 dummies_after d v = if v.kind == 0 then seed_by d (instruction_of v.word) v.ctl else d

@@ -17,6 +17,7 @@ pub record Setup : Type 0 where
   pub mul : MulKind
   pub plan : PlanValue
 
+-- what of a run time depends on: all but the image
 abbrev pub settings_of : Setup → Settings
 settings_of s = record { ram = s.image.ram; mul = s.mul; plan = s.plan }
 

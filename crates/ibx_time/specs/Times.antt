@@ -1,5 +1,6 @@
 -- When items are admitted, enter and are done: what the items so far leave of time. Our own rule.
-use Rattle.std.specs.Prelude.{ℕ, suc, ◌+◌, ◌-◌, ◌*◌, ◌/◌, ◌%◌, ◌^◌, Bool, true, false, not, ◌&&◌, ◌||◌, ◌==◌, nat_le, if◌then◌else◌, List, [], ◌∷◌, ◌++◌, length, Option, Some, None}
+use Rattle.std.specs.Prelude.{ℕ, suc, ◌+◌, ◌-◌, ◌*◌, ◌/◌, ◌%◌, ◌^◌, Bool, true, false, not, ◌&&◌, ◌||◌, ◌==◌, nat_le}
+use Rattle.std.specs.Prelude.{if◌then◌else◌, List, [], ◌∷◌, ◌++◌, length, Option, Some, None}
 use Rattle.ibx_isa.specs.declared.event.View.{View}
 use Rattle.ibx_plan.specs.declared.site.Wait.{Wait}
 use Rattle.ibx_bus.specs.PortTimes.{grant_time, answer_time}
@@ -14,8 +15,8 @@ use Rattle.ibx_time.specs.Items.{Item, Portions, NoPortion, One, OneBad, Two, Tw
 use Rattle.ibx_time.specs.Requests.{nothing_past}
 use Rattle.ibx_time.specs.Streams.{Stream, answer, redirected_to}
 
--- the words since the last redirect, the half of its word in which the next instruction begins, the transactions of the data
--- port, the registers that time depends on, and the dummies
+-- the words since the last redirect, the half of its word in which the next instruction begins, the transactions of
+-- the data port, the registers that time depends on, and the dummies
 pub record Times : Type 0 where
   pub stream : Stream
   pub half : ℕ
@@ -27,9 +28,10 @@ pub record Times : Type 0 where
 abbrev pub next_pc : Times → ℕ
 next_pc x = (4 * (x.stream.base + length x.stream.enters) + 2 * x.half) % 2 ^ 32
 
--- ---- the portions of a load or store that enters at e, with n transactions of the port before it; the second portion is issued in
--- the cycle after the first answer
+-- ---- the portions of a load or store that enters at e, with n transactions of the port before it; the second portion
+-- is issued in the cycle after the first answer
 
+-- the number of a portion's transaction, its issue, its grant and its answer
 abbrev pub portion_number : ℕ → Bool → ℕ
 portion_number n false = n
 portion_number n true = suc n
@@ -58,6 +60,7 @@ made_by TwoBad n = suc (suc n)
 abbrev pub may_end : Settings → Item → Ctl → ℕ → ℕ → Bool
 may_end k i c e u = if i.sleeps then is_woken c (lines_in k u) else nat_le (e + i.cost) u
 
+-- the first cycle in which an item without a portion can end, if before limit
 abbrev pub stop_of : Settings → ℕ → Item → Ctl → ℕ → ℕ
 stop_of k limit i c e = first_from (limit - e) (may_end k i c e) e
 
@@ -87,6 +90,7 @@ kind_by (Some number) due = AnInterrupt number
 kind_by None true = ADummy
 kind_by None false = AnInstruction
 
+-- what is admitted at t: a pending interrupt first, then a due dummy, else the instruction
 unfoldable pub kind_at : Settings → Times → ℕ → Kind
 kind_at k x t = kind_by (pending_in (values_of x.ctl) (lines_in k t)) (is_due_in x.ctl x.dummies)
 
@@ -96,8 +100,8 @@ is_ready (AnInterrupt number) words = true
 is_ready ADummy words = true
 is_ready AnInstruction words = words
 
--- The words of an instruction with so many parcels have answered by t. One that crosses a word needs two; one with an unsound
--- first parcel takes that one alone.
+-- The words of an instruction with so many parcels have answered by t. One that crosses a word needs two; one with an
+-- unsound first parcel takes that one alone.
 unfoldable pub has_answered : Settings → Times → ℕ → ℕ → Bool
 has_answered k x parcels t =
     nat_le (answer k x.stream (length x.stream.enters)) t
@@ -107,6 +111,7 @@ has_answered k x parcels t =
 abbrev pub entered : ℕ → ℕ → ℕ → List ℕ → List ℕ
 entered half parcels e enters = if nat_le 2 (half + parcels) then enters ++ e ∷ [] else enters
 
+-- the dummies after an admission: an interrupt leaves them, a dummy is inserted, an instruction counts
 abbrev pub dummies_with : Kind → Ctl → Dummy → Dummy
 dummies_with (AnInterrupt number) c d = d
 dummies_with ADummy c d = inserted d
@@ -124,23 +129,30 @@ admitted kind t i x = record {
 
 -- ---- after an event
 
+-- the FENCE.I so far, with one at d
 abbrev pub fenced_if : Bool → ℕ → List ℕ → List ℕ
 fenced_if true d fences = d ∷ fences
 fenced_if false d fences = fences
 
+-- where an item redirects to, if it does
 abbrev pub target_if : Bool → ℕ → Option ℕ
 target_if true target = Some target
 target_if false target = None
 
+-- the half of its word in which the next instruction begins, after a redirect
 abbrev pub half_after : Option ℕ → ℕ → ℕ
 half_after None half = half
 half_after (Some target) half = target / 2 % 2
 
 -- the stream with what an event at d leaves of FENCE.I and icache_enable
 abbrev pub marked : Bool → Ctl → ℕ → Stream → Stream
-marked fences c d x = record x { fences = fenced_if fences d x.fences; switches = record { time = d; on = enables_cache c } ∷ x.switches }
+marked fences c d x = record x {
+  fences = fenced_if fences d x.fences;
+  switches = record { time = d; on = enables_cache c } ∷ x.switches;
+}
 
--- The times after an event at d with this view, whose item redirects, if it does, to the program counter that the event left.
+-- The times after an event at d with this view, whose item redirects, if it does, to the program counter that the
+-- event left.
 unfoldable pub after_event : Settings → ℕ → View → Item → ℕ → Times → Times
 after_event k d v i pc x = record {
   stream = redirected_to k (marked i.fences (ctl_after x.ctl v) d x.stream) d (target_if i.redirects pc);
@@ -153,7 +165,8 @@ after_event k d v i pc x = record {
 -- reset is a redirect at cycle 0
 unfoldable pub first_times : ℕ → Times
 first_times pc = record {
-  stream = record { start = 0; base = pc / 4; before = nothing_past; last = 0; enters = []; fences = []; switches = [] };
+  stream =
+      record { start = 0; base = pc / 4; before = nothing_past; last = 0; enters = []; fences = []; switches = [] };
   half = pc / 2 % 2;
   made = 0;
   ctl = ctl_reset;

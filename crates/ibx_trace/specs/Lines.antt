@@ -18,18 +18,22 @@ register_text rd value = if rd == 0 then [] else codes " x" ++ two_digits rd ++ 
 unfoldable pub store_text : Option Access → List ℕ
 store_text None = []
 store_text (Some access) = if access.store
-    then codes " m" ++ hex_digits 8 access.addr ++ codes "=" ++ hex_digits 8 access.value ++ codes "/" ++ decimal access.size
+    then codes " m" ++ hex_digits 8 access.addr ++ codes "=" ++ hex_digits 8 access.value ++ codes "/"
+    ++ decimal access.size
     else []
 
 -- the line of an event
 unfoldable pub line_of : Event → List ℕ
 line_of (Retire cycle pc word rd value mem ctl ops) =
-    heading (codes "R ") cycle pc ++ codes " " ++ word_digits word ++ register_text rd value ++ store_text mem ++ codes "\n"
+    heading (codes "R ") cycle pc ++ codes " " ++ word_digits word ++ register_text rd value ++ store_text mem
+    ++ codes "\n"
 line_of (Trap cycle pc word cause tval addr) =
-    heading (codes "T ") cycle pc ++ codes " cause=" ++ decimal cause ++ codes " tval=" ++ hex_digits 8 tval ++ codes "\n"
+    heading (codes "T ") cycle pc ++ codes " cause=" ++ decimal cause ++ codes " tval=" ++ hex_digits 8 tval
+    ++ codes "\n"
 line_of (Irq cycle pc cause) = heading (codes "I ") cycle pc ++ codes " cause=" ++ decimal cause ++ codes "\n"
 
 -- the last line: whether a halting store ended the run, the count of cycles, and the count of events
 unfoldable pub end_line_of : Bool → ℕ → ℕ → List ℕ
 end_line_of halted cycles events =
-    (if halted then codes "E halt " else codes "E budget ") ++ decimal cycles ++ codes " " ++ decimal events ++ codes "\n"
+    (if halted then codes "E halt " else codes "E budget ") ++ decimal cycles ++ codes " " ++ decimal events
+    ++ codes "\n"

@@ -22,15 +22,20 @@ operands_text (Some operands) = codes " op=" ++ hex_digits 8 operands.0 ++ codes
 abbrev pub is_access_fault : ℕ → Bool
 is_access_fault cause = (cause == 5) || (cause == 7)
 
+-- an instruction that retired: its address and word, then the address of its access, the value that it handed to a
+-- control register, and its operands, where it has them
 unfoldable pub retirement_text : View → List ℕ
 retirement_text v = view_heading (codes "R ") v.pc ++ codes " " ++ word_digits v.word
     ++ part_text (codes " a=") v.addr ++ part_text (codes " c=") v.ctl ++ operands_text v.ops ++ codes "\n"
 
+-- an exception: the instruction's address and word, the cause and the value of mtval, and the address of an access
+-- fault
 unfoldable pub trap_text : View → List ℕ
 trap_text v = view_heading (codes "T ") v.pc ++ codes " " ++ word_digits v.word
     ++ codes " cause=" ++ decimal v.cause ++ codes " tval=" ++ hex_digits 8 v.tval
     ++ (if is_access_fault v.cause then part_text (codes " a=") v.addr else []) ++ codes "\n"
 
+-- an interrupt that was taken: the address of the instruction that it came before, and the cause
 unfoldable pub interrupt_text : View → List ℕ
 interrupt_text v = view_heading (codes "I ") v.pc ++ codes " cause=" ++ decimal v.cause ++ codes "\n"
 

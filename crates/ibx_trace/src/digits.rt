@@ -7,10 +7,10 @@ ghost use Rattle.ibx_trace.specs.Digits.{hex_digits, two_digits, word_digits};
 use arrayvec::ArrayString;
 use itoa::Buffer;
 
-/// The text of a line. The longest has fewer than 96 bytes.
+// The text of a line. The longest has fewer than 96 bytes.
 pub(crate) type Line = ArrayString<96>;
 
-/// Appends a hexadecimal digit.
+// Appends a hexadecimal digit.
 fn push_digit(text: &mut Line, digit: u8)
     requires digit { digit < 16 }
     requires room { array_string_len text.old < 96 }
@@ -24,7 +24,7 @@ fn push_digit(text: &mut Line, digit: u8)
     }
 }
 
-/// Appends the lowest `width` hexadecimal digits of `number`.
+// Appends the lowest `width` hexadecimal digits of `number`.
 #[tactic(auto, using(crate::proofs::DigitLemmas::push_hex_digit), unfolding(crate::specs::Digits::hex_digits))]
 pub(crate) fn push_hex(text: &mut Line, number: u32, width: u32)
     requires width { width ≤ 8 }
@@ -37,7 +37,7 @@ pub(crate) fn push_hex(text: &mut Line, number: u32, width: u32)
     }
 }
 
-/// Appends an instruction: 8 digits for a word, and 4 for a halfword.
+// Appends an instruction: 8 digits for a word, and 4 for a halfword.
 #[tactic(auto, unfolding(crate::specs::Digits::word_digits))]
 pub(crate) fn push_word(text: &mut Line, word: u32)
     requires { array_string_len text.old + 8 ≤ 96 }
@@ -51,7 +51,7 @@ pub(crate) fn push_word(text: &mut Line, word: u32)
     }
 }
 
-/// Appends two decimal digits.
+// Appends two decimal digits.
 #[tactic(auto, unfolding(crate::specs::Digits::two_digits))]
 pub(crate) fn push_two_digits(text: &mut Line, number: u8)
     requires small { number < 100 }
@@ -63,7 +63,7 @@ pub(crate) fn push_two_digits(text: &mut Line, number: u8)
     push_digit(text, number % 10);
 }
 
-/// Appends a decimal number, which has at most 20 digits, without leading zeros.
+// Appends a decimal number, which has at most 20 digits, without leading zeros.
 pub(crate) fn push_number(text: &mut Line, number: u64)
     requires { array_string_len text.old + 20 ≤ 96 }
     ensures bytes { text.new.bytes ≡ text.old.bytes ++ decimal number }

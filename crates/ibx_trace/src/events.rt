@@ -8,7 +8,7 @@ use crate::digits::{Line, push_hex, push_number, push_two_digits, push_word};
 use arrayvec::ArrayString;
 use ibx_isa::{Access, Event};
 
-/// Begins a line with the kind of the event, its cycle and the byte address of its instruction.
+// Begins a line with the kind of the event, its cycle and the byte address of its instruction.
 #[tactic(auto, unfolding(crate::specs::Lines::heading))]
 fn begin(kind: &str, cycle: u64, pc: u32) -> Line
     requires { length kind.now ≤ 2 }
@@ -23,7 +23,7 @@ fn begin(kind: &str, cycle: u64, pc: u32) -> Line
     text
 }
 
-/// Appends the register `rd` that was written and its new value, and nothing where `rd` is 0.
+// Appends the register `rd` that was written and its new value, and nothing where `rd` is 0.
 #[tactic(auto, unfolding(crate::specs::Lines::register_text))]
 fn push_register(text: &mut Line, rd: u8, value: u32)
     requires register { rd < 32 }
@@ -39,7 +39,7 @@ fn push_register(text: &mut Line, rd: u8, value: u32)
     }
 }
 
-/// Appends the address, the value and the size of a store, and nothing for a load.
+// Appends the address, the value and the size of a store, and nothing for a load.
 #[tactic(auto, unfolding(crate::specs::Lines::store_text))]
 fn push_store(text: &mut Line, access: Option<Access>)
     requires { array_string_len text.old + 40 ≤ 96 }

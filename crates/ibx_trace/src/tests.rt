@@ -8,7 +8,7 @@ fn expect(rt: &impl Abort, found: &str, expected: &str) {
     assert_eq!(rt; found, expected);
 }
 
-/// The view of a division, without its operands.
+// The view of a division, without its operands.
 const DIVISION: View = View {
     kind: 0,
     pc: 0x0010_008c,

@@ -8,7 +8,7 @@ use crate::digits::{Line, push_hex, push_number, push_word};
 use arrayvec::ArrayString;
 use ibx_isa::View;
 
-/// Begins a line with the kind of the view and the byte address of its instruction.
+// Begins a line with the kind of the view and the byte address of its instruction.
 #[tactic(auto, unfolding(crate::specs::ViewLines::view_heading))]
 fn begin(kind: &str, pc: u32) -> Line
     requires { length kind.now ≤ 2 }
@@ -21,7 +21,7 @@ fn begin(kind: &str, pc: u32) -> Line
     text
 }
 
-/// Appends a named value, and nothing where there is none.
+// Appends a named value, and nothing where there is none.
 #[tactic(auto, unfolding(crate::specs::ViewLines::part_text))]
 fn push_part(text: &mut Line, name: &str, value: Option<u32>)
     requires name { length name.now ≤ 3 }
@@ -35,7 +35,7 @@ fn push_part(text: &mut Line, name: &str, value: Option<u32>)
     }
 }
 
-/// Appends the values of rs1 and rs2, and nothing where there are none.
+// Appends the values of rs1 and rs2, and nothing where there are none.
 #[tactic(auto, unfolding(crate::specs::ViewLines::operands_text))]
 fn push_operands(text: &mut Line, operands: Option<(u32, u32)>)
     requires { array_string_len text.old + 21 ≤ 96 }

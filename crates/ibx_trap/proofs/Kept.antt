@@ -12,11 +12,14 @@ abbrev other_bits : ℕ
 other_bits = 2 ^ 32 - 1 - (mie_bit + mpie_bit + mpp_bits + mprv_bit + tw_bit)
 
 -- bits that are kept add none
-set-kept : (b : Bool) (m bits : ℕ) → bit_and bits other_bits ≡ 0 → bit_and (set_if b m bits) other_bits ≡ bit_and m other_bits
+set-kept : (b : Bool) (m bits : ℕ) → bit_and bits other_bits ≡ 0
+    → bit_and (set_if b m bits) other_bits ≡ bit_and m other_bits
 set-kept true m bits apart = and_or_apart other_bits m bits apart
 set-kept false m bits apart = and_or_apart other_bits m 0 refl
 
-pub entered-kept : (m : ℕ) (machine : Bool) → bit_and m other_bits ≡ 0 → bit_and (entered_mstatus m machine) other_bits ≡ 0
+-- so it is after a trap's entry and after a return
+pub entered-kept : (m : ℕ) (machine : Bool) → bit_and m other_bits ≡ 0
+    → bit_and (entered_mstatus m machine) other_bits ≡ 0
 entered-kept m machine h =
     set-kept machine (set_if (has_some m mie_bit) (cleared m (mie_bit + mpie_bit + mpp_bits)) mpie_bit) mpp_bits refl
     ∙ set-kept (has_some m mie_bit) (cleared m (mie_bit + mpie_bit + mpp_bits)) mpie_bit refl
@@ -24,27 +27,35 @@ entered-kept m machine h =
 
 pub left-kept : (m : ℕ) (machine : Bool) → bit_and m other_bits ≡ 0 → bit_and (left_mstatus m machine) other_bits ≡ 0
 left-kept m machine h =
-    set-kept (machine && has_some m mprv_bit) (bit_or (set_if (has_some m mpie_bit) (cleared m (mie_bit + mpie_bit + mpp_bits + mprv_bit)) mie_bit) mpie_bit) mprv_bit refl
-    ∙ and_or_apart other_bits (set_if (has_some m mpie_bit) (cleared m (mie_bit + mpie_bit + mpp_bits + mprv_bit)) mie_bit) mpie_bit refl
+    set-kept (machine && has_some m mprv_bit)
+    (bit_or (set_if (has_some m mpie_bit) (cleared m (mie_bit + mpie_bit + mpp_bits + mprv_bit)) mie_bit) mpie_bit)
+    mprv_bit refl
+    ∙ and_or_apart other_bits (set_if (has_some m mpie_bit) (cleared m (mie_bit + mpie_bit + mpp_bits + mprv_bit))
+    mie_bit) mpie_bit refl
     ∙ set-kept (has_some m mpie_bit) (cleared m (mie_bit + mpie_bit + mpp_bits + mprv_bit)) mie_bit refl
     ∙ and_assoc other_bits m (2 ^ 32 - 1 - (mie_bit + mpie_bit + mpp_bits + mprv_bit)) ∙ h
 
+-- the byte of cpuctrl stays a byte, after an exception and after an interrupt
 set-below : (b : Bool) (m bits : ℕ) → m < 2 ^ 8 → bits < 2 ^ 8 → set_if b m bits < 2 ^ 8
 set-below true m bits h small = or_lt 8 m bits h small
 set-below false m bits h small = or_lt 8 m 0 h (omega arith)
 
 pub excepted-below : (m : ℕ) → m < 2 ^ 8 → excepted m < 2 ^ 8
-excepted-below m h = set-below (has_some m sync_exc_seen) (bit_or m sync_exc_seen) double_fault_seen (or_lt 8 m sync_exc_seen h (omega arith)) (omega arith)
+excepted-below m h = set-below (has_some m sync_exc_seen) (bit_or m sync_exc_seen) double_fault_seen
+    (or_lt 8 m sync_exc_seen h (omega arith)) (omega arith)
 
 mark-below : (irq : Bool) (m : ℕ) → m < 2 ^ 8 → (if irq then m else excepted m) < 2 ^ 8
 mark-below true m h = h
 mark-below false m h = excepted-below m h
 
+-- the cause keeps to its bits below the interrupt flag
 pub cause-kept : (irq : Bool) (cause : ℕ) → cause < 32 → (if irq then cause + 2 ^ 31 else cause) % 2 ^ 31 < 32
 cause-kept true cause h = omega arith
 cause-kept false cause h = omega arith
 
-pub enter-kept : (r : TrapRegs) (pc cause : ℕ) (irq : Bool) (tval : ℕ) → IsKept r → pc % 2 ≡ 0 → cause < 32 → IsKept (enter_of r pc cause irq tval)
+-- so a trap leaves registers as a write would keep them
+pub enter-kept : (r : TrapRegs) (pc cause : ℕ) (irq : Bool) (tval : ℕ) → IsKept r → pc % 2 ≡ 0 → cause < 32
+    → IsKept (enter_of r pc cause irq tval)
 unfolding enter_of
 enter-kept r pc cause irq tval h even small = record {
   mstatus = entered-kept r.mstatus r.machine h.mstatus;
@@ -54,9 +65,11 @@ enter-kept r pc cause irq tval h even small = record {
   cpuctrl = mark-below irq r.cpuctrl h.cpuctrl;
 }
 
+-- a byte without some of its bits is one
 below-and : (m n : ℕ) → m < 2 ^ 8 → bit_and m n < 2 ^ 8
 below-and m n h = let le = and_le_l m n in omega (arith, le)
 
+-- and so does a return
 pub leave-kept : (r : TrapRegs) → IsKept r → IsKept (leave_of r)
 unfolding leave_of
 leave-kept r h = record {

@@ -8,5 +8,6 @@ pub find-drop : (test : ℕ → Bool) (xs : List ℕ) (i : ℕ) → i < length x
     → find test (drop i xs) ≡ cond (test (get_or xs i 0)) (Some (get_or xs i 0)) (find test (drop (i + 1) xs))
 find-drop test xs i lt = rw (drop-cons xs i 0 lt, add-one i) refl
 
+-- past the end nothing is found
 pub find-end : (test : ℕ → Bool) (xs : List ℕ) (i : ℕ) → length xs ≤ i → find test (drop i xs) ≡ None
 find-end test xs i le = rw (drop_all i xs le) refl

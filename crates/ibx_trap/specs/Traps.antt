@@ -7,7 +7,8 @@ use Rattle.ibx_trap.specs.Bits.{has_some, has_all, cleared, set, set_if}
 -- A trap from a mode (Privileged ISA 1.12, 3.1.6.1): MPIE takes MIE, MIE becomes 0, MPP takes the mode.
 abbrev pub entered_mstatus : ℕ → Bool → ℕ
 entered_mstatus mstatus machine =
-    set_if machine (set_if (has_some mstatus mie_bit) (cleared mstatus (mie_bit + mpie_bit + mpp_bits)) mpie_bit) mpp_bits
+    set_if machine (set_if (has_some mstatus mie_bit) (cleared mstatus (mie_bit + mpie_bit + mpp_bits)) mpie_bit)
+    mpp_bits
 
 -- an exception marks cpuctrl, twice where an earlier one was not returned from (our own rule)
 abbrev pub excepted : ℕ → ℕ
@@ -35,7 +36,9 @@ enter_target r cause irq = let base = cleared r.mtvec 0xff in if irq then (base 
 -- where the mode is U.
 abbrev pub left_mstatus : ℕ → Bool → ℕ
 left_mstatus mstatus machine =
-    set_if (machine && has_some mstatus mprv_bit) (set (set_if (has_some mstatus mpie_bit) (cleared mstatus (mie_bit + mpie_bit + mpp_bits + mprv_bit)) mie_bit) mpie_bit) mprv_bit
+    set_if (machine && has_some mstatus mprv_bit)
+    (set (set_if (has_some mstatus mpie_bit) (cleared mstatus (mie_bit + mpie_bit + mpp_bits + mprv_bit)) mie_bit)
+    mpie_bit) mprv_bit
 
 -- the registers after MRET; the mode is that of MPP, and cpuctrl forgets the exception (our own rule)
 unfoldable pub leave_of : TrapRegs → TrapRegs
@@ -45,8 +48,8 @@ leave_of r = let machine = has_all r.mstatus mpp_bits in record r {
   cpuctrl = cleared r.cpuctrl sync_exc_seen;
 }
 
--- registers that have no bit that a write doesn't keep: mstatus those of its five fields, mtvec a multiple of 256 and 1,
--- mepc even, mcause bits 31 and 4:0, cpuctrl 8 bits
+-- registers that have no bit that a write doesn't keep: mstatus those of its five fields, mtvec a multiple of 256 and
+-- 1, mepc even, mcause bits 31 and 4:0, cpuctrl 8 bits
 pub record IsKept (r : TrapRegs) : Type 0 where
   pub mstatus : bit_and r.mstatus (2 ^ 32 - 1 - (mie_bit + mpie_bit + mpp_bits + mprv_bit + tw_bit)) ≡ 0
   pub mtvec : r.mtvec % 256 ≡ 1

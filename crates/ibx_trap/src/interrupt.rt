@@ -4,8 +4,8 @@ ghost use Rattle.ibx_trap.specs.Interrupts.{pending_of, order};
 
 use ibx_isa::control::MIE;
 
-/// The numbers of the interrupts, the one that is taken first in front: the fast interrupts (our own
-/// order), external, software, timer (RISC-V Privileged ISA 1.12, 3.1.9).
+// The numbers of the interrupts, the one that is taken first in front: the fast interrupts (our own
+// order), external, software, timer (RISC-V Privileged ISA 1.12, 3.1.9).
 const ORDER: [u8; 18] = [
     16, 17, 18, 19, 20, 21, 22, 23, 24, 25, 26, 27, 28, 29, 30, 11, 3, 7,
 ];
@@ -35,6 +35,3 @@ fn first_asked(asked: u32) -> Option<u8>
     }
     None
 }
-
-#[cfg(test)]
-mod tests;

@@ -2,6 +2,8 @@
 #![tactic(auto)]
 
 mod interrupt;
+#[cfg(test)]
+mod tests;
 mod trap;
 
 pub use interrupt::pending;

@@ -83,6 +83,3 @@ fn with_exception(cpuctrl: u32) -> u32
     let again = if is_second { DOUBLE_FAULT_SEEN } else { 0 };
     cpuctrl | SYNC_EXC_SEEN | again
 }
-
-#[cfg(test)]
-mod tests;

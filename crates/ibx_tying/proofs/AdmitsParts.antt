@@ -1,9 +1,11 @@
 -- The portions of an item that is admitted: they are all to come.
-use Rattle.std.proofs.Common.{◌≡◌, ℕ, ◌+◌, ◌<◌, ◌≤◌, ◌⊎◌, inl, inr, Bool, true, false, List, [], ◌∷◌, Option, Some, None, refl, ◌∙◌, arith}
+use Rattle.std.proofs.Common.{◌≡◌, ℕ, ◌+◌, ◌<◌, ◌≤◌, ◌⊎◌, inl, inr, Bool, true, false, List, [], ◌∷◌, Option, Some}
+use Rattle.std.proofs.Common.{None, refl, ◌∙◌, arith}
 use Rattle.std.specs.Prelude.{◌==◌, if◌then◌else◌}
 use Rattle.std.proofs.lemmas.Bool.{lt-leb}
 use Rattle.ibx_isa.specs.declared.insn.Insn.{Insn}
-use Rattle.ibx_isa.specs.declared.insn.Insn.TheVariants.{Lui, Auipc, Jal, Jalr, Branch, Load, Store, AluImm, Alu, MulDiv, Csr, Fence, FenceI, Ecall, Ebreak, Mret, Wfi}
+use Rattle.ibx_isa.specs.declared.insn.Insn.TheVariants.{Lui, Auipc, Jal, Jalr, Branch, Load, Store, AluImm, Alu}
+use Rattle.ibx_isa.specs.declared.insn.Insn.TheVariants.{MulDiv, Csr, Fence, FenceI, Ecall, Ebreak, Mret, Wfi}
 use Rattle.ibx_isa.specs.declared.event.Access.{Access}
 use Rattle.ibx_isa.specs.declared.event.View.{View}
 use Rattle.ibx_bus.specs.Port.{PortState}
@@ -17,10 +19,12 @@ use Rattle.ibx_arch.specs.State.{State}
 use Rattle.ibx_arch.specs.Step.{Choice}
 use Rattle.ibx_time.specs.Settings.{Settings, Setup, settings_of}
 use Rattle.ibx_time.specs.Controls.{Ctl, is_fixed}
-use Rattle.ibx_time.specs.Items.{Item, Portions, NoPortion, One, OneBad, Two, TwoBad, branching, dummy_item, is_turned, item_of, parcels_of, portions_for, plain, retired_item, trap_parcels}
+use Rattle.ibx_time.specs.Items.{Item, Portions, NoPortion, One, OneBad, Two, TwoBad, branching, dummy_item, is_turned}
+use Rattle.ibx_time.specs.Items.{item_of, parcels_of, portions_for, plain, retired_item, trap_parcels}
 use Rattle.ibx_time.specs.Requests.{Transaction}
 use Rattle.ibx_time.specs.Times.{portion_grant, portion_issue}
-use Rattle.ibx_time.specs.Memories.{Write, access_of, portion_sent, sent_by, sent_with, write_of, writes_with, written_by}
+use Rattle.ibx_time.specs.Memories.{Write, access_of, portion_sent, sent_by, sent_with, write_of, writes_with}
+use Rattle.ibx_time.specs.Memories.{written_by}
 use Rattle.ibx_time.specs.History.{Story, access_at, access_by, choice_at, item_at, item_by, taken, view_with}
 use Rattle.ibx_time.specs.BusLines.{wires_at}
 use Rattle.ibx_joining.proofs.Stages.{LsAt, new, quiet, reaches}
@@ -33,7 +37,9 @@ pub data HasAccess (portions : Portions) (o : Option Access) : Type 0 where
   none : portions ≡ NoPortion → HasAccess portions o
   some : (w : Access) → o ≡ Some w → HasAccess portions o
 
-row_access : (k : Settings) (c : Ctl) (s : State) (insn : Option Insn) (addr : Option ℕ) → HasAccess (portions_for k c insn addr) (access_of s insn)
+-- by the row of a load or store
+row_access : (k : Settings) (c : Ctl) (s : State) (insn : Option Insn) (addr : Option ℕ)
+    → HasAccess (portions_for k c insn addr) (access_of s insn)
 row_access k c s (Some (Load op rd rs1 imm)) addr = some _ refl
 row_access k c s (Some (Store size rs1 rs2 imm)) addr = some _ refl
 row_access k c s None addr = none refl
@@ -58,7 +64,9 @@ turned_portions : (b : Bool) (i : Item) → i.portions ≡ NoPortion → (branch
 turned_portions true i e = e
 turned_portions false i e = e
 
-retired_access : (k : Settings) (c : Ctl) (v : View) (s : State) (o : Option Insn) (i : Item) → i.portions ≡ NoPortion → HasAccess (retired_item k c v o i).portions (access_of s o)
+-- so it is for an item that retires or traps, and for each item of a history
+retired_access : (k : Settings) (c : Ctl) (v : View) (s : State) (o : Option Insn) (i : Item) → i.portions ≡ NoPortion
+    → HasAccess (retired_item k c v o i).portions (access_of s o)
 unfolding retired_item
 retired_access k c v s (Some (Load op rd rs1 imm)) i e = some _ refl
 retired_access k c v s (Some (Store size rs1 rs2 imm)) i e = some _ refl
@@ -67,7 +75,8 @@ retired_access k c v s (Some (Lui rd imm)) i e = none e
 retired_access k c v s (Some (Auipc rd imm)) i e = none e
 retired_access k c v s (Some (Jal rd imm)) i e = none e
 retired_access k c v s (Some (Jalr rd rs1 imm)) i e = none e
-retired_access k c v s (Some (Branch op rs1 rs2 imm)) i e = none (turned_portions (is_turned (is_fixed c) op v.ops) i e)
+retired_access k c v s (Some (Branch op rs1 rs2 imm)) i e =
+    none (turned_portions (is_turned (is_fixed c) op v.ops) i e)
 retired_access k c v s (Some (AluImm op rd rs1 imm)) i e = none e
 retired_access k c v s (Some (Alu op rd rs1 rs2)) i e = none e
 retired_access k c v s (Some (MulDiv op rd rs1 rs2)) i e = none e
@@ -79,18 +88,26 @@ retired_access k c v s (Some Ebreak) i e = none e
 retired_access k c v s (Some Mret) i e = none e
 retired_access k c v s (Some Wfi) i e = none e
 
-item_access_by : (o : Option Access) (a b : Bool) (x y z : Item) → x.portions ≡ NoPortion → HasAccess y.portions o → HasAccess z.portions o → HasAccess (if a then x else if b then y else z).portions o
+item_access_by : (o : Option Access) (a b : Bool) (x y z : Item) → x.portions ≡ NoPortion → HasAccess y.portions o
+    → HasAccess z.portions o → HasAccess (if a then x else if b then y else z).portions o
 item_access_by o true b x y z e g k = none e
 item_access_by o false true x y z e g k = g
 item_access_by o false false x y z e g k = k
 
-item_access : (k : Settings) (c : Ctl) (v : View) (s : State) → HasAccess (item_of k c v).portions (access_of s (instruction_of v.word))
+item_access : (k : Settings) (c : Ctl) (v : View) (s : State)
+    → HasAccess (item_of k c v).portions (access_of s (instruction_of v.word))
 unfolding item_of
 item_access k c v s =
-    item_access_by (access_of s (instruction_of v.word)) (v.kind == 2) (v.kind == 1) (record (plain 0) { redirects = true })
-    (record (plain (trap_parcels v)) { portions = portions_for k c (instruction_of v.word) v.addr; cost = 1; redirects = true })
+    item_access_by (access_of s (instruction_of v.word)) (v.kind == 2) (v.kind == 1)
+    (record (plain 0) { redirects = true })
+    (record (plain (trap_parcels v)) {
+      portions = portions_for k c (instruction_of v.word) v.addr;
+      cost = 1;
+      redirects = true;
+    })
     (retired_item k c v (instruction_of v.word) (plain (parcels_of v.word)))
-    refl (row_access k c s (instruction_of v.word) v.addr) (retired_access k c v s (instruction_of v.word) (plain (parcels_of v.word)) refl)
+    refl (row_access k c s (instruction_of v.word) v.addr)
+    (retired_access k c v s (instruction_of v.word) (plain (parcels_of v.word)) refl)
 
 chosen_access : (s : Setup) (h : Story) (o : Option Choice) → HasAccess (item_by s h o).portions (access_by s h o)
 unfolding dummy_item
@@ -103,6 +120,7 @@ has_access s t h = chosen_access s h (choice_at s t h)
 
 -- ---- the data port before the first cycle in the stage
 
+-- an item has no portion, or a first one
 first_portion : (portions : Portions) → (portions ≡ NoPortion) ⊎ (reaches portions false ≡ true)
 first_portion NoPortion = inl refl
 first_portion One = inr refl
@@ -110,17 +128,22 @@ first_portion OneBad = inr refl
 first_portion Two = inr refl
 first_portion TwoBad = inr refl
 
-portion_by : (s : Setup) (t : ℕ) (h : Story) (ls : Lsu) (p : PortState) → HasAccess (item_at s t h).portions (access_at s t h) → ((item_at s t h).portions ≡ NoPortion) ⊎ (reaches (item_at s t h).portions false ≡ true)
-    → ls ≡ ls_idle → Idle s.plan.dwaits h.times.made p → LsAt s t h (t + 1) ls p
+-- so the unit is idle or its first portion is due
+portion_by : (s : Setup) (t : ℕ) (h : Story) (ls : Lsu) (p : PortState)
+    → HasAccess (item_at s t h).portions (access_at s t h)
+    → ((item_at s t h).portions ≡ NoPortion) ⊎ (reaches (item_at s t h).portions false ≡ true) → ls ≡ ls_idle
+    → Idle s.plan.dwaits h.times.made p → LsAt s t h (t + 1) ls p
 portion_by s t h ls p a (inl e) l i = quiet e l i
 portion_by s t h ls p (none e) (inr r) l i = quiet e l i
 portion_by s t h ls p (some w e) (inr r) l i = new w false (record { access = e; reached = r }) l refl i
 
-pub starts_portion : (s : Setup) (t : ℕ) (h : Story) (ls : Lsu) (p : PortState) → ls ≡ ls_idle → Idle s.plan.dwaits h.times.made p → LsAt s t h (t + 1) ls p
+pub starts_portion : (s : Setup) (t : ℕ) (h : Story) (ls : Lsu) (p : PortState) → ls ≡ ls_idle
+    → Idle s.plan.dwaits h.times.made p → LsAt s t h (t + 1) ls p
 starts_portion s t h ls p l i = portion_by s t h ls p (has_access s t h) (first_portion (item_at s t h).portions) l i
 
 -- ---- the writes
 
+-- a portion is issued and granted in the item's first cycle or later, and written then
 late_issue : (ws : List Wait) (n e : ℕ) (second : Bool) → e ≤ portion_issue ws n e second
 unfolding answer_time grant_time
 late_issue ws n e false = omega arith
@@ -134,7 +157,9 @@ late_write : (ws : List Wait) (n e : ℕ) (a : Access) (second : Bool) → e ≤
 late_write ws n e a false = late_grant ws n e false
 late_write ws n e a true = late_grant ws n e true
 
-grows_by : (portions : Portions) (store : Bool) (first second : Write) (ws : List Write) (e : ℕ) → e ≤ first.time → e ≤ second.time → Grows ws (written_by portions store first second ws) e
+-- so the writes that are new are at that cycle or later
+grows_by : (portions : Portions) (store : Bool) (first second : Write) (ws : List Write) (e : ℕ) → e ≤ first.time
+    → e ≤ second.time → Grows ws (written_by portions store first second ws) e
 unfolding written_by
 grows_by NoPortion false first second ws e a b = record { front = []; joined = refl; late = tt }
 grows_by One false first second ws e a b = record { front = []; joined = refl; late = tt }
@@ -147,9 +172,12 @@ grows_by OneBad true first second ws e a b = record { front = first ∷ []; join
 grows_by Two true first second ws e a b = record { front = second ∷ first ∷ []; joined = refl; late = (b, (a, tt)) }
 grows_by TwoBad true first second ws e a b = record { front = second ∷ first ∷ []; joined = refl; late = (b, (a, tt)) }
 
-grows_with : (waits : List Wait) (n e : ℕ) (portions : Portions) (o : Option Access) (ws : List Write) → Grows ws (writes_with waits n e portions o ws) e
+grows_with : (waits : List Wait) (n e : ℕ) (portions : Portions) (o : Option Access) (ws : List Write)
+    → Grows ws (writes_with waits n e portions o ws) e
 grows_with waits n e portions None ws = record { front = []; joined = refl; late = tt }
-grows_with waits n e portions (Some a) ws = grows_by portions a.store (write_of waits n e a false) (write_of waits n e a true) ws e (late_write waits n e a false) (late_write waits n e a true)
+grows_with waits n e portions (Some a) ws =
+    grows_by portions a.store (write_of waits n e a false) (write_of waits n e a true) ws e
+    (late_write waits n e a false) (late_write waits n e a true)
 
 pub grows : (s : Setup) (t : ℕ) (h : Story) → Grows h.writes (taken s t h).writes (t + 1)
 unfolding taken
@@ -157,15 +185,18 @@ grows s t h = grows_with s.plan.dwaits h.times.made (t + 1) (item_at s t h).port
 
 -- ---- the wires of the cycle before
 
+-- a transaction that is issued later isn't on the wires
 unseen : (x : Transaction) (sent : List Transaction) (c : ℕ) → c < x.issue → wires_at (x ∷ sent) c ≡ wires_at sent c
 unfolding wires_at
 unseen x sent c l = rw (lt-leb x.issue c l) refl
 
+-- so the wires of the cycle of admission are those without the item
 late_sent : (ws : List Wait) (n e : ℕ) (a : Access) (second : Bool) → e ≤ (portion_sent ws n e a second).issue
 late_sent ws n e a false = late_issue ws n e false
 late_sent ws n e a true = late_issue ws n e true
 
-wires_by : (portions : Portions) (first second : Transaction) (sent : List Transaction) (c : ℕ) → c < first.issue → c < second.issue → wires_at (sent_by portions first second sent) c ≡ wires_at sent c
+wires_by : (portions : Portions) (first second : Transaction) (sent : List Transaction) (c : ℕ) → c < first.issue
+    → c < second.issue → wires_at (sent_by portions first second sent) c ≡ wires_at sent c
 unfolding sent_by
 wires_by NoPortion first second sent c a b = refl
 wires_by One first second sent c a b = unseen first sent c a
@@ -173,7 +204,8 @@ wires_by OneBad first second sent c a b = unseen first sent c a
 wires_by Two first second sent c a b = unseen second (first ∷ sent) c b ∙ unseen first sent c a
 wires_by TwoBad first second sent c a b = unseen second (first ∷ sent) c b ∙ unseen first sent c a
 
-wires_with : (waits : List Wait) (n c : ℕ) (portions : Portions) (o : Option Access) (sent : List Transaction) → wires_at (sent_with waits n (c + 1) portions o sent) c ≡ wires_at sent c
+wires_with : (waits : List Wait) (n c : ℕ) (portions : Portions) (o : Option Access) (sent : List Transaction)
+    → wires_at (sent_with waits n (c + 1) portions o sent) c ≡ wires_at sent c
 wires_with waits n c portions None sent = refl
 wires_with waits n c portions (Some a) sent =
     wires_by portions (portion_sent waits n (c + 1) a false) (portion_sent waits n (c + 1) a true) sent c

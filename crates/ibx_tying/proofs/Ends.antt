@@ -1,5 +1,6 @@
 -- The effect of an item in its last cycle is the step's.
-use Rattle.std.proofs.Common.{◌≡◌, ℕ, ◌+◌, ◌%◌, ◌^◌, ◌<◌, ◌≤◌, Bool, true, false, Option, Some, None, refl, sym, ap, subst, ◌∙◌, arith}
+use Rattle.std.proofs.Common.{◌≡◌, ℕ, ◌+◌, ◌%◌, ◌^◌, ◌<◌, ◌≤◌, Bool, true, false, Option, Some, None, refl, sym, ap}
+use Rattle.std.proofs.Common.{subst, ◌∙◌, arith}
 use Rattle.std.specs.Prelude.{◌==◌, if◌then◌else◌, slice_index}
 use Rattle.ibx_isa.specs.declared.event.View.{View}
 use Rattle.ibx_isa.specs.Views.{view_of}
@@ -18,7 +19,8 @@ use Rattle.ibx_time.specs.Shown.{staged_by}
 use Rattle.ibx_machine.specs.Core.{effect_by, ra_of, rb_of, sight_by, sight_of}
 use Rattle.ibx_id.specs.declared.stage.IdState.{IdState}
 use Rattle.ibx_machine.specs.System.{System, in_of}
-use Rattle.ibx_joining.proofs.Stages.{ItemAt, PhaseAt, fault_by, fault_of, found, fresh, later, portion_phase, trap_phase, view_by, view_phase}
+use Rattle.ibx_joining.proofs.Stages.{ItemAt, PhaseAt, fault_by, fault_of, found, fresh, later, portion_phase}
+use Rattle.ibx_joining.proofs.Stages.{trap_phase, view_by, view_phase}
 use Rattle.ibx_joining.proofs.Ties.{IsPlaced, IsState, Tied}
 use Rattle.ibx_joining.proofs.StageSide.{Ends, ending, ending_by}
 use Rattle.ibx_joining.proofs.ArchSide.{ArchEnds, Left, eyes_in, parcels_by}
@@ -35,6 +37,7 @@ use Rattle.ibx_tying.proofs.EndsViews.{step_after, view_same}
 
 -- ---- the case
 
+-- the item in the stage with the core and what it sees
 abbrev pub case_of : Setup → ℕ → Story → System → Case
 case_of s t h st = record {
   s = s;
@@ -48,15 +51,20 @@ case_of s t h st = record {
   inn = in_of s st;
 }
 
-seen_is : (s : Setup) (t : ℕ) (h : Story) (st : System) → Seen (case_of s t h st) (slice_index st.regs (ra_of st.main.id)) (slice_index st.regs (rb_of st.main.id))
+-- the stage sees by its fields
+seen_is : (s : Setup) (t : ℕ) (h : Story) (st : System)
+    → Seen (case_of s t h st) (slice_index st.regs (ra_of st.main.id)) (slice_index st.regs (rb_of st.main.id))
 unfolding sight_by in_of
 seen_is s t h st = record { row = refl; a = refl; b = refl; access = refl; cause = refl }
 
+-- the lines are those of the plan
 lines_are : (s : Setup) (st : System) → (in_of s st).lines ≡ lines_in (settings_of s) st.cycle
 unfolding in_of
 lines_are s st = refl
 
-known_is : (s : Setup) (t : ℕ) (h : Story) (st : System) → IsPlaced s → Tied s h st.cycle st.main.next_pc st.main.csrs st.regs → IsState s st.cycle h
+-- what is known of an instruction holds
+known_is : (s : Setup) (t : ℕ) (h : Story) (st : System) → IsPlaced s
+    → Tied s h st.cycle st.main.next_pc st.main.csrs st.regs → IsState s st.cycle h
     → st.main.dummies ≡ (taken s t h).times.dummies → st.main.id.pc ≡ h.state.pc → Known (case_of s t h st)
 known_is s t h st ok ti i d pc = record {
   good = good s st.cycle h i;
@@ -72,30 +80,40 @@ known_is s t h st ok ti i d pc = record {
 
 -- ---- an instruction
 
+-- what is fetched for it, and its step in this cycle
 abbrev pub what : Setup → Story → Fetched
 what s h = fetch h.state (first_of_pair s h) (second_of_pair s h)
 
 abbrev pub step_now : Setup → Story → ℕ → Stepped
 step_now s h c = after_fetch (at_cycle h.state c) c (lines_in (settings_of s) c) (what s h)
 
+-- the step of the history is this one
 step_is : (s : Setup) (h : Story) (c : ℕ) → step_of s h (brought_parcels s h) c ≡ step_now s h c
-step_is s h c = ap (λ x. step_of s h x c) (brought_is s h) ∙ step_after (settings_of s) h.state c (first_of_pair s h) (second_of_pair s h)
+step_is s h c = ap (λ x. step_of s h x c) (brought_is s h)
+    ∙ step_after (settings_of s) h.state c (first_of_pair s h) (second_of_pair s h)
 
+-- so its view is, its item and the phase of its trap
 pub view_is : (s : Setup) (h : Story) (c : ℕ) → view_with s h (brought_parcels s h) ≡ view_of (step_now s h c).event
 view_is s h c =
     ap (view_with s h) (brought_is s h)
     ∙ view_same (settings_of s) h.state h.state.stands c (first_of_pair s h) (second_of_pair s h)
     ∙ ap (λ p. view_of p.event) (step_after (settings_of s) h.state c (first_of_pair s h) (second_of_pair s h))
 
-item_by_view : (s : Setup) (t : ℕ) (h : Story) (c : ℕ) → kind_of s t h ≡ AnInstruction → item_at s t h ≡ item_of (settings_of s) h.times.ctl (view_of (step_now s h c).event)
+item_by_view : (s : Setup) (t : ℕ) (h : Story) (c : ℕ) → kind_of s t h ≡ AnInstruction
+    → item_at s t h ≡ item_of (settings_of s) h.times.ctl (view_of (step_now s h c).event)
 unfolding item_at
-item_by_view s t h c k = ap (λ x. item_by s h (choice_by s h x)) k ∙ ap (item_of (settings_of s) h.times.ctl) (view_is s h c)
+item_by_view s t h c k =
+    ap (λ x. item_by s h (choice_by s h x)) k ∙ ap (item_of (settings_of s) h.times.ctl) (view_is s h c)
 
-pub phase_by_view : (s : Setup) (t : ℕ) (h : Story) (c : ℕ) → kind_of s t h ≡ AnInstruction → trap_phase s t h ≡ view_phase (Some (view_of (step_now s h c).event))
+pub phase_by_view : (s : Setup) (t : ℕ) (h : Story) (c : ℕ) → kind_of s t h ≡ AnInstruction
+    → trap_phase s t h ≡ view_phase (Some (view_of (step_now s h c).event))
 unfolding trap_phase
-phase_by_view s t h c k = ap (λ x. view_phase (view_by s h (choice_by s h x))) k ∙ ap (λ v. view_phase (Some v)) (view_is s h c)
+phase_by_view s t h c k =
+    ap (λ x. view_phase (view_by s h (choice_by s h x))) k ∙ ap (λ v. view_phase (Some v)) (view_is s h c)
 
-portion_small : (tval : ℕ) (o : Option ℕ) (b : Bool) → ((if b then portion_phase tval o else 0) == 4) ≡ false → (if b then portion_phase tval o else 0) < 4
+-- a trap of a portion is in phase 2 or 3
+portion_small : (tval : ℕ) (o : Option ℕ) (b : Bool) → ((if b then portion_phase tval o else 0) == 4) ≡ false
+    → (if b then portion_phase tval o else 0) < 4
 portion_small tval o false e = omega arith
 portion_small tval None true e = absurd cc
 portion_small tval (Some addr) true e = either_small (tval == addr)
@@ -107,37 +125,50 @@ portion_small tval (Some addr) true e = either_small (tval == addr)
 phase_small : (v : View) → (view_phase (Some v) == 4) ≡ false → view_phase (Some v) < 4
 phase_small v e = portion_small v.tval v.addr (v.kind == 1) e
 
-phase_low : (s : Setup) (limit t : ℕ) (h : Story) (c phase : ℕ) (n : ℕ) → trap_phase s t h ≡ n → n < 4 → PhaseAt s limit t h c phase → phase < 4
+-- so the phase of the stage is below 4
+phase_low : (s : Setup) (limit t : ℕ) (h : Story) (c phase : ℕ) (n : ℕ) → trap_phase s t h ≡ n → n < 4
+    → PhaseAt s limit t h c phase → phase < 4
 phase_low s limit t h c phase n e l (fresh p x) = omega (arith, p)
 phase_low s limit t h c phase n e l (later p x y) = omega (arith, p)
 phase_low s limit t h c phase n e l (found p x y z) = omega (arith, p, e, l)
 
+-- what is brought are halfwords, so what is fetched is well formed
 pair_low : (s : Setup) (h : Story) → IsPlaced s → (first_of_pair s h < 2 ^ 16) × (second_of_pair s h < 2 ^ 16)
 pair_low s h ok = (
   parcel_low (memory_at (image_memory s.image) h.writes _) h.state.pc (λ a. log_low s h.writes _ a ok),
-  parcel_low (memory_at (image_memory s.image) h.writes _) ((h.state.pc + 2) % 2 ^ 32) (λ a. log_low s h.writes _ a ok),
+  parcel_low (memory_at (image_memory s.image) h.writes _) ((h.state.pc + 2) % 2 ^ 32)
+      (λ a. log_low s h.writes _ a ok),
 )
 
 pub fetch_is_good : (s : Setup) (h : Story) → IsPlaced s → h.state.pc < 2 ^ 32 → IsFetch h.state.pc (what s h)
 fetch_is_good s h ok l =
     subst (IsFetch h.state.pc) (sym (fetch_is h.state (first_of_pair s h) (second_of_pair s h)))
-    (fetch_good (is_sound h.state.csrs h.state.memory.ram h.state.pc) (is_long (first_of_pair s h)) (is_sound h.state.csrs h.state.memory.ram ((h.state.pc + 2) % 2 ^ 32)) h.state.pc (first_of_pair s h) (second_of_pair s h) l (pair_low s h ok).0 (pair_low s h ok).1 refl)
+    (fetch_good (is_sound h.state.csrs h.state.memory.ram h.state.pc) (is_long (first_of_pair s h))
+    (is_sound h.state.csrs h.state.memory.ram ((h.state.pc + 2) % 2 ^ 32)) h.state.pc (first_of_pair s h)
+    (second_of_pair s h) l (pair_low s h ok).0 (pair_low s h ok).1 refl)
 
-pub fields_are : (s : Setup) (t : ℕ) (h : Story) (c : ℕ) (id : IdState) → IsState s c h → kind_of s t h ≡ AnInstruction → ItemAt s t h id → Fields h.state.pc (what s h) id
+-- the stage holds what is fetched
+pub fields_are : (s : Setup) (t : ℕ) (h : Story) (c : ℕ) (id : IdState) → IsState s c h → kind_of s t h ≡ AnInstruction
+    → ItemAt s t h id → Fields h.state.pc (what s h) id
 fields_are s t h c id i k a = record {
   valid = a.valid;
   kind = a.kind ∙ ap (λ x. (staged_by s h x).kind) k;
   pc_is = a.pc ∙ ap (λ x. (staged_by s h x).pc) k;
-  word = a.word ∙ ap (λ x. (staged_by s h x).word) k ∙ ap (λ x. (view_with s h x).word) (brought_is s h) ∙ (arch_fetches s c h (first_of_pair s h) (second_of_pair s h) i).word;
+  word = a.word ∙ ap (λ x. (staged_by s h x).word) k ∙ ap (λ x. (view_with s h x).word) (brought_is s h)
+      ∙ (arch_fetches s c h (first_of_pair s h) (second_of_pair s h) i).word;
   fault = a.fault ∙ ap (fault_by s h) k ∙ ap (fault_of h.state.pc) (fetched_is s h);
 }
 
-parcels_few : (s : Setup) (t : ℕ) (h : Story) (c : ℕ) → IsState s c h → kind_of s t h ≡ AnInstruction → (item_at s t h).parcels ≤ 2
+-- it takes two parcels at most
+parcels_few : (s : Setup) (t : ℕ) (h : Story) (c : ℕ) → IsState s c h → kind_of s t h ≡ AnInstruction
+    → (item_at s t h).parcels ≤ 2
 unfolding item_at
 parcels_few s t h c i k =
-    subst (λ n. n ≤ 2) (sym (ap (λ x. (item_by s h (choice_by s h x)).parcels) k ∙ ap (λ x. (item_of (settings_of s) h.times.ctl (view_with s h x)).parcels) (brought_is s h)
+    subst (λ n. n ≤ 2) (sym (ap (λ x. (item_by s h (choice_by s h x)).parcels) k
+    ∙ ap (λ x. (item_of (settings_of s) h.times.ctl (view_with s h x)).parcels) (brought_is s h)
     ∙ (arch_fetches s c h (first_of_pair s h) (second_of_pair s h) i).parcels))
-    (few (is_sound h.state.csrs h.state.memory.ram h.state.pc) (is_long (first_of_pair s h)) (is_sound h.state.csrs h.state.memory.ram ((h.state.pc + 2) % 2 ^ 32)))
+    (few (is_sound h.state.csrs h.state.memory.ram h.state.pc) (is_long (first_of_pair s h))
+    (is_sound h.state.csrs h.state.memory.ram ((h.state.pc + 2) % 2 ^ 32)))
   where
     few : (a long b : Bool) → parcels_by a long b ≤ 2
     few false long b = omega arith
@@ -154,27 +185,36 @@ UnitsEnd s =
     → ItemAt s t h st.main.id
     → PhaseAt s limit t h st.cycle st.main.id.phase
     → kind_of s t h ≡ AnInstruction
-    → Ends s limit t h st.cycle st.main.id st.main.md st.main.ls st.dport (eyes_in s st.cycle st.main.id st.main.csrs st.regs)
+    → Ends s limit t h st.cycle st.main.id st.main.md st.main.ls st.dport
+    (eyes_in s st.cycle st.main.id st.main.csrs st.regs)
     → OthersIn (case_of s t h st) (what s h)
 
-instruction_ended : (s : Setup) (limit t : ℕ) (h : Story) (st : System) → UnitsEnd s → IsPlaced s → Tied s h st.cycle st.main.next_pc st.main.csrs st.regs → IsState s st.cycle h
-    → st.main.dummies ≡ (taken s t h).times.dummies → ItemAt s t h st.main.id → PhaseAt s limit t h st.cycle st.main.id.phase → kind_of s t h ≡ AnInstruction
-    → Ends s limit t h st.cycle st.main.id st.main.md st.main.ls st.dport (eyes_in s st.cycle st.main.id st.main.csrs st.regs)
+-- the effect of an instruction is its step's, and so it leaves what the step does
+instruction_ended : (s : Setup) (limit t : ℕ) (h : Story) (st : System) → UnitsEnd s → IsPlaced s
+    → Tied s h st.cycle st.main.next_pc st.main.csrs st.regs → IsState s st.cycle h
+    → st.main.dummies ≡ (taken s t h).times.dummies → ItemAt s t h st.main.id
+    → PhaseAt s limit t h st.cycle st.main.id.phase → kind_of s t h ≡ AnInstruction
+    → Ends s limit t h st.cycle st.main.id st.main.md st.main.ls st.dport
+    (eyes_in s st.cycle st.main.id st.main.csrs st.regs)
     → Ended (case_of s t h st) (effect_now (case_of s t h st)) (step_now s h st.cycle)
 instruction_ended s limit t h st units ok ti i d a ph k n =
     let f : Fields h.state.pc (what s h) st.main.id = fields_are s t h st.cycle st.main.id i k a in
     let v : View = view_of (step_now s h st.cycle).event in
-    fetched_ends (case_of s t h st) (what s h) st.regs (known_is s t h st ok ti i d f.pc_is) (seen_is s t h st) ti.regs_are (fetch_is_good s h ok i.pc_low) f
-    (λ q. phase_low s limit t h st.cycle st.main.id.phase (view_phase (Some v)) (phase_by_view s t h st.cycle k) (phase_small v q) ph)
+    fetched_ends (case_of s t h st) (what s h) st.regs (known_is s t h st ok ti i d f.pc_is) (seen_is s t h st)
+    ti.regs_are (fetch_is_good s h ok i.pc_low) f
+    (λ q. phase_low s limit t h st.cycle st.main.id.phase (view_phase (Some v)) (phase_by_view s t h st.cycle k)
+    (phase_small v q) ph)
     (record {
-      turn = turn_is s st ∙ n.turn ∙ ap (λ x. ending x (trap_phase s t h) (item_at s t h).redirects) k ∙ ap (λ x. ending_by x (item_at s t h).redirects) (phase_by_view s t h st.cycle k);
+      turn = turn_is s st ∙ n.turn ∙ ap (λ x. ending x (trap_phase s t h) (item_at s t h).redirects) k
+          ∙ ap (λ x. ending_by x (item_at s t h).redirects) (phase_by_view s t h st.cycle k);
       item = item_by_view s t h st.cycle k;
     })
     (units limit t h st ok ti i a ph k n)
 
-instruction_left : (s : Setup) (limit t : ℕ) (h : Story) (st : System) → IsPlaced s → Tied s h st.cycle st.main.next_pc st.main.csrs st.regs → IsState s st.cycle h
-    → kind_of s t h ≡ AnInstruction
-    → Ends s limit t h st.cycle st.main.id st.main.md st.main.ls st.dport (eyes_in s st.cycle st.main.id st.main.csrs st.regs)
+instruction_left : (s : Setup) (limit t : ℕ) (h : Story) (st : System) → IsPlaced s
+    → Tied s h st.cycle st.main.next_pc st.main.csrs st.regs → IsState s st.cycle h → kind_of s t h ≡ AnInstruction
+    → Ends s limit t h st.cycle st.main.id st.main.md st.main.ls st.dport
+    (eyes_in s st.cycle st.main.id st.main.csrs st.regs)
     → Ended (case_of s t h st) (effect_now (case_of s t h st)) (step_now s h st.cycle)
     → Left s limit t h st.cycle (effect_now (case_of s t h st)) st.regs
 instruction_left s limit t h st ok ti i k n en =
@@ -183,8 +223,10 @@ instruction_left s limit t h st ok ti i k n en =
     leaves s limit t h c e st.regs (Some (brought_parcels s h)) (ap (choice_by s h) k) n.done
     (steps s h (taken s t h) (item_at s t h) c st.main.next_pc st.main.csrs st.regs (brought_parcels s h) e ti
     (keeps s t h ti.half_low (parcels_few s t h c i k))
-    (subst (λ v. Does c h.state.pc h.state.regs h.times.ctl (taken s t h).times.dummies (item_at s t h) v e (step_of s h (brought_parcels s h) c)) (sym (view_is s h c))
-    (subst (λ p. Does c h.state.pc h.state.regs h.times.ctl (taken s t h).times.dummies (item_at s t h) (view_of (step_now s h c).event) e p) (sym (step_is s h c)) en.does))
+    (subst (λ v. Does c h.state.pc h.state.regs h.times.ctl (taken s t h).times.dummies (item_at s t h) v e
+    (step_of s h (brought_parcels s h) c)) (sym (view_is s h c))
+    (subst (λ p. Does c h.state.pc h.state.regs h.times.ctl (taken s t h).times.dummies (item_at s t h)
+    (view_of (step_now s h c).event) e p) (sym (step_is s h c)) en.does))
     (subst (λ p. IsGood s.image.ram p.next) (sym (step_is s h c)) en.good)
     (record {
       before = n.settled;
@@ -192,16 +234,23 @@ instruction_left s limit t h st ok ti i k n en =
       memory = ap (λ p. p.next.memory) (step_is s h c) ∙ en.memory;
     }))
 
-ends_by : (s : Setup) (limit t : ℕ) (h : Story) (st : System) (kind : Kind) → UnitsEnd s → IsPlaced s → Tied s h st.cycle st.main.next_pc st.main.csrs st.regs → IsState s st.cycle h
-    → st.main.dummies ≡ (taken s t h).times.dummies → ItemAt s t h st.main.id → PhaseAt s limit t h st.cycle st.main.id.phase → kind_of s t h ≡ kind
-    → Ends s limit t h st.cycle st.main.id st.main.md st.main.ls st.dport (eyes_in s st.cycle st.main.id st.main.csrs st.regs)
-    → Left s limit t h st.cycle (effect_by (sight_of st.main (in_of s st)).turn st.main (sight_of st.main (in_of s st)) (in_of s st)) st.regs
+-- so it is for every item, by what it is
+ends_by : (s : Setup) (limit t : ℕ) (h : Story) (st : System) (kind : Kind) → UnitsEnd s → IsPlaced s
+    → Tied s h st.cycle st.main.next_pc st.main.csrs st.regs → IsState s st.cycle h
+    → st.main.dummies ≡ (taken s t h).times.dummies → ItemAt s t h st.main.id
+    → PhaseAt s limit t h st.cycle st.main.id.phase → kind_of s t h ≡ kind
+    → Ends s limit t h st.cycle st.main.id st.main.md st.main.ls st.dport
+    (eyes_in s st.cycle st.main.id st.main.csrs st.regs)
+    → Left s limit t h st.cycle (effect_by (sight_of st.main (in_of s st)).turn st.main (sight_of st.main (in_of s st))
+    (in_of s st)) st.regs
 ends_by s limit t h st (AnInterrupt number) units ok ti i d a ph k n =
-    interrupt_ends s limit t h st.cycle number st.regs st.main (sight_of st.main (in_of s st)) (in_of s st) ti i d k n.done
+    interrupt_ends s limit t h st.cycle number st.regs st.main (sight_of st.main (in_of s st)) (in_of s st) ti i d k
+    n.done
     (a.pc ∙ ap (λ x. (staged_by s h x).pc) k) (a.word ∙ ap (λ x. (staged_by s h x).word) k) n.settled n.granted
     (turn_is s st ∙ n.turn ∙ ap (λ x. ending x (trap_phase s t h) (item_at s t h).redirects) k)
 ends_by s limit t h st ADummy units ok ti i d a ph k n =
-    dummy_ends s limit t h st.cycle st.regs st.main (sight_of st.main (in_of s st)) (in_of s st) ti i d (ap (choice_by s h) k) n.done n.settled n.granted
+    dummy_ends s limit t h st.cycle st.regs st.main (sight_of st.main (in_of s st)) (in_of s st) ti i d
+    (ap (choice_by s h) k) n.done n.settled n.granted
     (turn_is s st ∙ n.turn ∙ ap (λ x. ending x (trap_phase s t h) (item_at s t h).redirects) k)
 ends_by s limit t h st AnInstruction units ok ti i d a ph k n =
     instruction_left s limit t h st ok ti i k n (instruction_ended s limit t h st units ok ti i d a ph k n)

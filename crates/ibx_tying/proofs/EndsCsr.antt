@@ -1,8 +1,10 @@
--- What is asked of the control registers by their names: which of them time changes, and which of them time depends on.
+-- What is asked of the control registers by their names: which of them time changes, and which of them time depends
+-- on.
 use Rattle.std.proofs.Common.{◌≡◌, ℕ, Bool, true, false, Option, Some, None, refl, sym, ap, ◌∙◌}
 use Rattle.std.specs.Prelude.{IfSome, if◌then◌else◌}
 use Rattle.ibx_csr.specs.declared.name.Csr.{Csr}
-use Rattle.ibx_csr.specs.declared.name.Csr.TheVariants.{Mstatus, Mie, Mip, Pmpcfg, Pmpaddr, Cpuctrl, Mcycle, Mcycleh, Minstret, Minstreth}
+use Rattle.ibx_csr.specs.declared.name.Csr.TheVariants.{Mstatus, Mie, Mip, Pmpcfg, Pmpaddr, Cpuctrl, Mcycle, Mcycleh}
+use Rattle.ibx_csr.specs.declared.name.Csr.TheVariants.{Minstret, Minstreth}
 use Rattle.ibx_csr.specs.Bits.{is_control, is_control_in, is_control_at}
 use Rattle.ibx_csr.specs.Table.{csr_of, is_read_only, readable, writable}
 use Rattle.ibx_csr.specs.Values.{CsrValues, counters_after, csr_write, put_at, put_value, value_of}
@@ -26,14 +28,17 @@ is_timing (Pmpaddr k) = true
 is_timing Cpuctrl = true
 is_timing _ = false
 
+-- a register by its address: one that controls the core is steady, and time depends on no other
 pub record IsNamedSo (a : ℕ) (c : Csr) : Type 0 where
   pub steady : is_control_at a ≡ true → is_steady c ≡ true
   pub idle : is_control_at a ≡ false → is_timing c ≡ false
 
+-- secureseed controls the core
 pub seed_controls : is_control_at 0x7c1 ≡ true
 unfolding csr_of
 seed_controls = refl
 
+-- the registers that control the core are steady, and timing's are among them
 steady_by : (c : Csr) → is_control c ≡ true → is_steady c ≡ true
 steady_by Mip e = absurd cc
 steady_by Mcycle e = absurd cc
@@ -50,13 +55,18 @@ idle_by (Pmpaddr k) e = absurd cc
 idle_by Cpuctrl e = absurd cc
 idle_by _ e = refl
 
+-- so it is for every register of the table
 named_by : (a : ℕ) (o : Option Csr) → csr_of a ≡ o → IfSome o (IsNamedSo a)
 named_by a None e = tt
-named_by a (Some c) e = record { steady = λ k. steady_by c (sym (ap is_control_in e) ∙ k); idle = λ k. idle_by c (sym (ap is_control_in e) ∙ k) }
+named_by a (Some c) e = record {
+  steady = λ k. steady_by c (sym (ap is_control_in e) ∙ k);
+  idle = λ k. idle_by c (sym (ap is_control_in e) ∙ k);
+}
 
 named_so : (a : ℕ) → IfSome (csr_of a) (IsNamedSo a)
 named_so a = named_by a (csr_of a) refl
 
+-- and for those that a mode may read
 if_readable : (machine : Bool) (a : ℕ) → IfSome (readable machine a) (IsNamedSo a)
 if_readable true a = named_so a
 if_readable false a = tt
@@ -64,7 +74,9 @@ if_readable false a = tt
 pub readable_so : (machine : Bool) (a : ℕ) → IfSome (readable machine a) (IsNamedSo a)
 readable_so machine a = if_readable machine a
 
-if_writable : (b : Bool) (o : Option Csr) (a : ℕ) → IfSome o (IsNamedSo a) → IfSome (if b then None else o) (IsNamedSo a)
+-- and write
+if_writable : (b : Bool) (o : Option Csr) (a : ℕ) → IfSome o (IsNamedSo a)
+    → IfSome (if b then None else o) (IsNamedSo a)
 if_writable true o a k = tt
 if_writable false o a k = k
 
@@ -73,7 +85,9 @@ writable_so machine a = if_writable (is_read_only a) (readable machine a) a (rea
 
 -- ---- what time doesn't change
 
-pub same_value : (v : CsrValues) (m n la lb : ℕ) (c : Csr) → is_steady c ≡ true → value_of (counters_after v m) c la ≡ value_of (counters_after v n) c lb
+-- a steady register reads the same with any count
+pub same_value : (v : CsrValues) (m n la lb : ℕ) (c : Csr) → is_steady c ≡ true
+    → value_of (counters_after v m) c la ≡ value_of (counters_after v n) c lb
 unfolding value_of counters_after
 same_value v m n la lb Mip e = absurd cc
 same_value v m n la lb Mcycle e = absurd cc
@@ -82,6 +96,7 @@ same_value v m n la lb Minstret e = absurd cc
 same_value v m n la lb Minstreth e = absurd cc
 same_value v m n la lb _ e = refl
 
+-- a register that isn't timing's leaves those that are
 put_idle : (v : CsrValues) (c : Csr) (w : ℕ) → is_timing c ≡ false → ctl_of (put_value v c w) ≡ ctl_of v
 unfolding put_value
 put_idle v Mstatus w e = absurd cc
@@ -91,7 +106,8 @@ put_idle v (Pmpaddr k) w e = absurd cc
 put_idle v Cpuctrl w e = absurd cc
 put_idle v _ w e = refl
 
-put_at_idle : (v : CsrValues) (a w : ℕ) (o : Option Csr) → IfSome o (IsNamedSo a) → is_control_at a ≡ false → ctl_of (put_at v w o) ≡ ctl_of v
+put_at_idle : (v : CsrValues) (a w : ℕ) (o : Option Csr) → IfSome o (IsNamedSo a) → is_control_at a ≡ false
+    → ctl_of (put_at v w o) ≡ ctl_of v
 put_at_idle v a w None k e = refl
 put_at_idle v a w (Some c) k e = put_idle v c w (k.idle e)
 

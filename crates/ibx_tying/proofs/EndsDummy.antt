@@ -1,5 +1,6 @@
 -- A dummy leaves the architecture as it is.
-use Rattle.std.proofs.Common.{◌≡◌, ℕ, ◌+◌, ◌*◌, ◌%◌, ◌^◌, ◌<◌, ◌≤◌, false, List, None, refl, sym, ap, subst, ◌∙◌, arith}
+use Rattle.std.proofs.Common.{◌≡◌, ℕ, ◌+◌, ◌*◌, ◌%◌, ◌^◌, ◌<◌, ◌≤◌, false, List, None, refl, sym, ap, subst, ◌∙◌}
+use Rattle.std.proofs.Common.{arith}
 use Rattle.ibx_csr.specs.Fields.{tick_of}
 use Rattle.ibx_csr.specs.declared.csrs.Csrs.{Csrs}
 use Rattle.ibx_arch.specs.Memory.{image_memory}
@@ -26,6 +27,7 @@ record IsDummy (i : Item) : Type 0 where
   redirects : i.redirects ≡ false
   fences : i.fences ≡ false
 
+-- the item without a choice is one
 dummy_is : (s : Setup) (h : Story) → IsDummy (item_by s h None)
 unfolding dummy_item
 dummy_is s h = record { parcels = refl; redirects = refl; fences = refl }
@@ -37,19 +39,23 @@ item_is_dummy s t h k = subst (λ o. IsDummy (item_by s h o)) (sym k) (dummy_is 
 -- it writes nothing
 no_writes : (s : Setup) (t : ℕ) (h : Story) → choice_at s t h ≡ None → (taken s t h).writes ≡ h.writes
 unfolding taken access_at
-no_writes s t h k = ap (λ o. writes_with s.plan.dwaits h.times.made (t + 1) (item_at s t h).portions (access_by s h o) h.writes) k
+no_writes s t h k =
+    ap (λ o. writes_with s.plan.dwaits h.times.made (t + 1) (item_at s t h).portions (access_by s h o) h.writes) k
 
+-- without a parcel the program counter stays
 same_pc : (pc n : ℕ) → n ≡ 0 → pc < 2 ^ 32 → (pc + 2 * n) % 2 ^ 32 ≡ pc
 same_pc pc n e l = omega (arith, e, l)
 
 -- a story with the item in the stage, whose state is the one before
-stays_by : (s : Setup) (h : Story) (x : Times) (ws : List Write) (ts : List Transaction) (i : Item) (c next_pc : ℕ) (csrs : Csrs) (regs : List ℕ) (core : Core)
+stays_by : (s : Setup) (h : Story) (x : Times) (ws : List Write) (ts : List Transaction) (i : Item) (c next_pc : ℕ)
+    (csrs : Csrs) (regs : List ℕ) (core : Core)
     → Tied s h c next_pc csrs regs → IsState s c h → core.csrs ≡ csrs → core.next_pc ≡ next_pc
     → Keeps h (record h { times = x; writes = ws; sent = ts }) i → IsDummy i → ws ≡ h.writes → core.dummies ≡ x.dummies
     → IsBefore ws c → AreGranted ts c
     → Leaves s i c (rests core) regs (record h { times = x; writes = ws; sent = ts; done = c }) None
 stays_by s h x ws ts i c next_pc csrs regs core t st ec en k d w dm before granted =
-    let still : StillTied s h (c + 1) next_pc (tick_of csrs false None) regs = arch_rests s h c next_pc csrs regs t st in
+    let still : StillTied s h (c + 1) next_pc (tick_of csrs false None) regs =
+    arch_rests s h c next_pc csrs regs t st in
     let still_now : StillTied s h (c + 1) core.next_pc (tick_of core.csrs false None) regs =
     subst (λ n. StillTied s h (c + 1) n (tick_of core.csrs false None) regs) (sym en)
     (subst (λ v. StillTied s h (c + 1) next_pc (tick_of v false None) regs) (sym ec) still) in
@@ -87,31 +93,39 @@ stays_by s h x ws ts i c next_pc csrs regs core t st ec en k d w dm before grant
       fence = sym d.fences;
     }
 
+-- so the story with a dummy has the state of before
 pub stays_in : (s : Setup) (t : ℕ) (h : Story) (c : ℕ) (regs : List ℕ) (core : Core)
-    → Tied s h c core.next_pc core.csrs regs → IsState s c h → core.dummies ≡ (taken s t h).times.dummies → choice_at s t h ≡ None
-    → IsBefore (taken s t h).writes c → AreGranted (taken s t h).sent c → Keeps h (taken s t h) (item_at s t h)
+    → Tied s h c core.next_pc core.csrs regs → IsState s c h → core.dummies ≡ (taken s t h).times.dummies
+    → choice_at s t h ≡ None → IsBefore (taken s t h).writes c → AreGranted (taken s t h).sent c
+    → Keeps h (taken s t h) (item_at s t h)
     → Leaves s (item_at s t h) c (rests core) regs (ended_by s h None (item_at s t h) c (taken s t h)) None
 stays_in s t h c regs core ti st dm k before granted keep =
     stays_of (taken s t h) (no_writes s t h k) dm before granted keep
   where
-    stays_of : (y : Story) → y.writes ≡ h.writes → core.dummies ≡ y.times.dummies → IsBefore y.writes c → AreGranted y.sent c → Keeps h y (item_at s t h)
+    stays_of : (y : Story) → y.writes ≡ h.writes → core.dummies ≡ y.times.dummies → IsBefore y.writes c
+        → AreGranted y.sent c → Keeps h y (item_at s t h)
         → Leaves s (item_at s t h) c (rests core) regs (record y { done = c }) None
     stays_of y w m b g kp =
-        subst (λ (x : State). Leaves s (item_at s t h) c (rests core) regs (record y { done = c; state = x }) None) (sym kp.same_state)
+        subst (λ (x : State). Leaves s (item_at s t h) c (rests core) regs (record y { done = c; state = x }) None)
+        (sym kp.same_state)
         (stays_by s h y.times y.writes y.sent (item_at s t h) c core.next_pc core.csrs regs core ti st refl refl
-        (record { half_low = kp.half_low; pc = kp.pc; ctl = kp.ctl; same_state = refl }) (item_is_dummy s t h k) w m b g)
+        (record { half_low = kp.half_low; pc = kp.pc; ctl = kp.ctl; same_state = refl }) (item_is_dummy s t h k) w m b
+        g)
 
+-- it takes no parcel
 no_parcels : (s : Setup) (t : ℕ) (h : Story) → choice_at s t h ≡ None → (item_at s t h).parcels ≤ 2
 no_parcels s t h k = omega (arith, (item_is_dummy s t h k).parcels)
 
+-- its effect is a rest
 rests_after : (x : Core) (g : Sight) (i : In) (turn : Turn) → turn ≡ Dummy → effect_by turn x g i ≡ rests x
 unfolding effect_by
 rests_after x g i turn e = ap (λ u. effect_by u x g i) e
 
+-- so a dummy leaves what the history does
 pub dummy_ends : (s : Setup) (limit t : ℕ) (h : Story) (c : ℕ) (regs : List ℕ) (core : Core) (g : Sight) (i : In)
-    → Tied s h c core.next_pc core.csrs regs → IsState s c h → core.dummies ≡ (taken s t h).times.dummies → choice_at s t h ≡ None → done_at s limit t h ≡ c
-    → IsBefore (taken s t h).writes c → AreGranted (taken s t h).sent c → g.turn ≡ Dummy
-    → Left s limit t h c (effect_by g.turn core g i) regs
+    → Tied s h c core.next_pc core.csrs regs → IsState s c h → core.dummies ≡ (taken s t h).times.dummies
+    → choice_at s t h ≡ None → done_at s limit t h ≡ c → IsBefore (taken s t h).writes c
+    → AreGranted (taken s t h).sent c → g.turn ≡ Dummy → Left s limit t h c (effect_by g.turn core g i) regs
 dummy_ends s limit t h c regs core g i ti st dm k d before granted turn =
     subst (λ e. Left s limit t h c e regs) (sym (rests_after core g i g.turn turn))
     (leaves s limit t h c (rests core) regs None k d

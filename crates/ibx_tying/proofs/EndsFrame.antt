@@ -1,5 +1,6 @@
 -- What an effect and a step have to have in common, and that this is all that the end of an item needs.
-use Rattle.std.proofs.Common.{◌≡◌, ℕ, ◌+◌, ◌-◌, ◌*◌, ◌/◌, ◌%◌, ◌^◌, ◌<◌, ◌≤◌, Bool, true, false, List, [], ◌∷◌, ◌++◌, length, map, slice_index, All, Option, Some, None, refl, sym, ap, subst, ◌∙◌, arith}
+use Rattle.std.proofs.Common.{◌≡◌, ℕ, ◌+◌, ◌-◌, ◌*◌, ◌/◌, ◌%◌, ◌^◌, ◌<◌, ◌≤◌, Bool, true, false, List, [], ◌∷◌, ◌++◌}
+use Rattle.std.proofs.Common.{length, map, slice_index, All, Option, Some, None, refl, sym, ap, subst, ◌∙◌, arith}
 use Rattle.std.specs.Prelude.{◌==◌, nat_le, if◌then◌else◌, slice_set, bit_and}
 use Rattle.std.proofs.lemmas.List.{length-append, map-set}
 use Rattle.std.proofs.lemmas.Nat.{mod_below}
@@ -23,7 +24,8 @@ use Rattle.ibx_time.specs.Items.{Item}
 use Rattle.ibx_time.specs.Memories.{memory_at}
 use Rattle.ibx_time.specs.Streams.{Stream, redirected, redirected_to}
 use Rattle.ibx_time.specs.Times.{Times, admitted, after_event, entered, half_after, marked, target_if}
-use Rattle.ibx_time.specs.History.{Story, choice_at, continued, done_at, ended_by, event_at, event_by, item_at, taken, view_with}
+use Rattle.ibx_time.specs.History.{Story, choice_at, continued, done_at, ended_by, event_at, event_by, item_at, taken}
+use Rattle.ibx_time.specs.History.{view_with}
 use Rattle.ibx_machine.specs.Core.{Effect}
 use Rattle.ibx_machine.specs.System.{happens_at, put_reg}
 use Rattle.ibx_joining.proofs.Fetches.{pc_in}
@@ -46,6 +48,7 @@ pub record IsGood (ram : Ram) (x : State) : Type 0 where
   pub ram_is : x.memory.ram ≡ ram
   pub bytes : (a : ℕ) → x.memory.byte a < 256
 
+-- a story's state is one
 pub good : (s : Setup) (c : ℕ) (h : Story) → IsState s c h → IsGood s.image.ram h.state
 good s c h i = record {
   pc_even = i.pc_even;
@@ -60,12 +63,14 @@ good s c h i = record {
 
 -- ---- an effect is a step
 
+-- the registers with a write, if there is one
 abbrev pub with_write : Option (ℕ × ℕ) → List ℕ → List ℕ
 with_write None regs = regs
 with_write (Some (n, value)) regs = slice_set regs n value
 
 -- of an item at pc, with the registers and dummies before
-pub record Does (c pc : ℕ) (regs : List ℕ) (ctl : Ctl) (d : Dummy) (i : Item) (v : View) (e : Effect) (p : Stepped) : Type 0 where
+pub record Does (c pc : ℕ) (regs : List ℕ) (ctl : Ctl) (d : Dummy) (i : Item) (v : View) (e : Effect)
+    (p : Stepped) : Type 0 where
   pub happens : happens_at c e.happens ≡ Some p.event
   pub csrs : values e.csrs ≡ p.next.csrs
   pub complemented : Complemented e.csrs
@@ -80,13 +85,18 @@ pub record Does (c pc : ℕ) (regs : List ℕ) (ctl : Ctl) (d : Dummy) (i : Item
 
 -- ---- the registers' words
 
-pub put_written : (o : Option (ℕ × ℕ)) (regs xs : List ℕ) → regs ≡ map (encode_of 32 7) xs → put_reg o regs ≡ map (encode_of 32 7) (with_write o xs)
+-- as codewords they take the write's codeword
+pub put_written : (o : Option (ℕ × ℕ)) (regs xs : List ℕ) → regs ≡ map (encode_of 32 7) xs
+    → put_reg o regs ≡ map (encode_of 32 7) (with_write o xs)
 put_written None regs xs e = e
-put_written (Some (n, value)) regs xs e = ap (λ rs. slice_set rs n (encode_of 32 7 value)) e ∙ sym (map-set (encode_of 32 7) xs n value)
+put_written (Some (n, value)) regs xs e =
+    ap (λ rs. slice_set rs n (encode_of 32 7 value)) e ∙ sym (map-set (encode_of 32 7) xs n value)
 
 -- ---- the counters
 
-same_count : (v : CsrValues) (b : Bool) → v.mcycle < 2 ^ 64 → (if b then (v.mcycle + 0) % 2 ^ 64 else v.mcycle) ≡ v.mcycle
+-- no cycle leaves the counters, so a state stands as it is in its own cycle
+same_count : (v : CsrValues) (b : Bool) → v.mcycle < 2 ^ 64
+    → (if b then (v.mcycle + 0) % 2 ^ 64 else v.mcycle) ≡ v.mcycle
 same_count v true l = ap (λ n. n % 2 ^ 64) (let e : v.mcycle + 0 ≡ v.mcycle = omega arith in e) ∙ mod-eq_of_lt l
 same_count v false l = refl
 
@@ -102,20 +112,25 @@ stands_now x c e l = sym (ap (counters_after x.csrs) (no_gap x.stands c e) ∙ n
 
 -- ---- the program counter in the stream
 
+-- an even address by its word and half, so a redirect puts the program counter there
 sum_even : (pc : ℕ) → pc % 2 ≡ 0 → pc < 2 ^ 32 → (4 * (pc / 4 + 0) + 2 * (pc / 2 % 2)) % 2 ^ 32 ≡ pc
 sum_even pc e l = omega (arith, e, l)
 
-pub redirected_pc : (k : Settings) (x : Stream) (c pc : ℕ) → pc % 2 ≡ 0 → pc < 2 ^ 32 → pc_in (redirected k x c pc) (pc / 2 % 2) ≡ pc
+pub redirected_pc : (k : Settings) (x : Stream) (c pc : ℕ) → pc % 2 ≡ 0 → pc < 2 ^ 32
+    → pc_in (redirected k x c pc) (pc / 2 % 2) ≡ pc
 unfolding redirected
 redirected_pc k x c pc e l = sum_even pc e l
 
 -- an item with parcels moves it
 half_sum : (half n m base : ℕ) (b : Bool) → half < 2 → n ≤ 2 → nat_le 2 (half + n) ≡ b
-    → (4 * (base + (if b then m + 1 else m)) + 2 * ((half + n) % 2)) % 2 ^ 32 ≡ ((4 * (base + m) + 2 * half) % 2 ^ 32 + 2 * n) % 2 ^ 32
+    → (4 * (base + (if b then m + 1 else m)) + 2 * ((half + n) % 2)) % 2 ^ 32
+    ≡ ((4 * (base + m) + 2 * half) % 2 ^ 32 + 2 * n) % 2 ^ 32
 half_sum half n m base true l k e = omega (arith, l, k, leb-true 2 (half + n) e)
 half_sum half n m base false l k e = omega (arith, l, k, leb-false 2 (half + n) e)
 
-entered_count : (b : Bool) (e : ℕ) (xs : List ℕ) → length (if b then xs ++ e ∷ [] else xs) ≡ (if b then length xs + 1 else length xs)
+-- an enter more, so the program counter moves by the parcels
+entered_count : (b : Bool) (e : ℕ) (xs : List ℕ)
+    → length (if b then xs ++ e ∷ [] else xs) ≡ (if b then length xs + 1 else length xs)
 entered_count true e xs = length-append xs (e ∷ [])
 entered_count false e xs = refl
 
@@ -125,7 +140,9 @@ entered_pc x half n e l k =
     ap (λ m. (4 * (x.base + m) + 2 * ((half + n) % 2)) % 2 ^ 32) (entered_count (nat_le 2 (half + n)) e x.enters)
     ∙ half_sum half n (length x.enters) x.base (nat_le 2 (half + n)) l k refl
 
-turned_pc : (k : Settings) (x : Stream) (half c pc : ℕ) (b : Bool) → pc % 2 ≡ 0 → pc < 2 ^ 32 → (b ≡ false → pc_in x half ≡ pc)
+-- and an event leaves it where the next instruction is
+turned_pc : (k : Settings) (x : Stream) (half c pc : ℕ) (b : Bool) → pc % 2 ≡ 0 → pc < 2 ^ 32
+    → (b ≡ false → pc_in x half ≡ pc)
     → pc_in (redirected_to k x c (target_if b pc)) (half_after (target_if b pc) half) ≡ pc
 turned_pc k x half c pc true e l f = redirected_pc k x c pc e l
 turned_pc k x half c pc false e l f = f refl
@@ -137,33 +154,50 @@ turned_half half pc false l = l
 -- ---- the end of an item
 
 -- what is left of an item, with the story after it and its event
-pub record Leaves (s : Setup) (i : Item) (c : ℕ) (e : Effect) (regs : List ℕ) (z : Story) (o : Option Event) : Type 0 where
-  pub happens : happens_at c e.happens ≡ o
-  pub tied : Tied s z (c + 1) e.next_pc e.csrs (put_reg e.write regs)
-  pub state : IsState s (c + 1) z
-  pub dummies : e.dummies ≡ z.times.dummies
-  pub redirect : e.redirect ≡ target_if i.redirects z.state.pc
-  pub fence : e.fence ≡ i.fences
+pub record Leaves (s : Setup) (i : Item) (c : ℕ) (e : Effect) (regs : List ℕ) (z : Story) (o : Option Event) : Type 0
+  where
+    pub happens : happens_at c e.happens ≡ o
+    pub tied : Tied s z (c + 1) e.next_pc e.csrs (put_reg e.write regs)
+    pub state : IsState s (c + 1) z
+    pub dummies : e.dummies ≡ z.times.dummies
+    pub redirect : e.redirect ≡ target_if i.redirects z.state.pc
+    pub fence : e.fence ≡ i.fences
 
-left_now : (s : Setup) (limit t : ℕ) (h : Story) (c : ℕ) (e : Effect) (regs : List ℕ) → Leaves s (item_at s t h) c e regs (continued s limit t h) (event_at s limit t h) → Left s limit t h c e regs
-left_now s limit t h c e regs l = record { happens = l.happens; tied = l.tied; state = l.state; dummies = l.dummies; redirect = l.redirect; fence = l.fence }
+-- it is so where the item is done
+left_now : (s : Setup) (limit t : ℕ) (h : Story) (c : ℕ) (e : Effect) (regs : List ℕ)
+    → Leaves s (item_at s t h) c e regs (continued s limit t h) (event_at s limit t h) → Left s limit t h c e regs
+left_now s limit t h c e regs l = record {
+  happens = l.happens;
+  tied = l.tied;
+  state = l.state;
+  dummies = l.dummies;
+  redirect = l.redirect;
+  fence = l.fence;
+}
 
-continued_is : (s : Setup) (limit t : ℕ) (h : Story) (c : ℕ) (o : Option Choice) → choice_at s t h ≡ o → done_at s limit t h ≡ c → continued s limit t h ≡ ended_by s h o (item_at s t h) c (taken s t h)
+-- the next story and the event by the item's choice
+continued_is : (s : Setup) (limit t : ℕ) (h : Story) (c : ℕ) (o : Option Choice) → choice_at s t h ≡ o
+    → done_at s limit t h ≡ c → continued s limit t h ≡ ended_by s h o (item_at s t h) c (taken s t h)
 unfolding continued
 continued_is s limit t h c o e d =
-    ap (λ x. ended_by s h x (item_at s t h) (done_at s limit t h) (taken s t h)) e ∙ ap (λ x. ended_by s h o (item_at s t h) x (taken s t h)) d
+    ap (λ x. ended_by s h x (item_at s t h) (done_at s limit t h) (taken s t h)) e
+    ∙ ap (λ x. ended_by s h o (item_at s t h) x (taken s t h)) d
 
-event_is : (s : Setup) (limit t : ℕ) (h : Story) (c : ℕ) (o : Option Choice) → choice_at s t h ≡ o → done_at s limit t h ≡ c → event_at s limit t h ≡ event_by s h o c
+event_is : (s : Setup) (limit t : ℕ) (h : Story) (c : ℕ) (o : Option Choice) → choice_at s t h ≡ o
+    → done_at s limit t h ≡ c → event_at s limit t h ≡ event_by s h o c
 unfolding event_at
 event_is s limit t h c o e d = ap (λ x. event_by s h x (done_at s limit t h)) e ∙ ap (λ x. event_by s h o x) d
 
 -- by the item's choice
-pub leaves : (s : Setup) (limit t : ℕ) (h : Story) (c : ℕ) (e : Effect) (regs : List ℕ) (o : Option Choice) → choice_at s t h ≡ o → done_at s limit t h ≡ c
-    → Leaves s (item_at s t h) c e regs (ended_by s h o (item_at s t h) c (taken s t h)) (event_by s h o c) → Left s limit t h c e regs
+pub leaves : (s : Setup) (limit t : ℕ) (h : Story) (c : ℕ) (e : Effect) (regs : List ℕ) (o : Option Choice)
+    → choice_at s t h ≡ o → done_at s limit t h ≡ c
+    → Leaves s (item_at s t h) c e regs (ended_by s h o (item_at s t h) c (taken s t h)) (event_by s h o c)
+    → Left s limit t h c e regs
 leaves s limit t h c e regs o k d l =
     left_now s limit t h c e regs
     (subst (λ z. Leaves s (item_at s t h) c e regs z (event_at s limit t h)) (sym (continued_is s limit t h c o k d))
-    (subst (λ x. Leaves s (item_at s t h) c e regs (ended_by s h o (item_at s t h) c (taken s t h)) x) (sym (event_is s limit t h c o k d)) l))
+    (subst (λ x. Leaves s (item_at s t h) c e regs (ended_by s h o (item_at s t h) c (taken s t h)) x)
+    (sym (event_is s limit t h c o k d)) l))
 
 -- what the item in the stage has of the story before
 pub record Keeps (h y : Story) (i : Item) : Type 0 where
@@ -172,7 +206,9 @@ pub record Keeps (h y : Story) (i : Item) : Type 0 where
   pub ctl : y.times.ctl ≡ h.times.ctl
   pub same_state : y.state ≡ h.state
 
-pub keeps : (s : Setup) (t : ℕ) (h : Story) → h.times.half < 2 → (item_at s t h).parcels ≤ 2 → Keeps h (taken s t h) (item_at s t h)
+-- an item that enters leaves the state, the registers and the program counter's place
+pub keeps : (s : Setup) (t : ℕ) (h : Story) → h.times.half < 2 → (item_at s t h).parcels ≤ 2
+    → Keeps h (taken s t h) (item_at s t h)
 unfolding taken admitted
 keeps s t h l k = record {
   half_low = mod_below (h.times.half + (item_at s t h).parcels) 2 (omega arith);
@@ -187,10 +223,13 @@ pub record IsLogged (s : Setup) (c : ℕ) (y : Story) (x : State) : Type 0 where
   pub granted : AreGranted y.sent c
   pub memory : x.memory ≡ memory_at (image_memory s.image) y.writes c
 
+-- the step of the history with a choice
 abbrev pub step_of : Setup → Story → Choice → ℕ → Stepped
 step_of s h choice c = step_with (lines_in (settings_of s)) h.state choice c
 
-pub state_after : (s : Setup) (c : ℕ) (z : Story) → IsGood s.image.ram z.state → z.state.stands ≡ c + 1 → z.done ≡ c → IsLogged s c z z.state → IsState s (c + 1) z
+-- the state after it is valid in the next cycle
+pub state_after : (s : Setup) (c : ℕ) (z : Story) → IsGood s.image.ram z.state → z.state.stands ≡ c + 1 → z.done ≡ c
+    → IsLogged s c z z.state → IsState s (c + 1) z
 state_after s c z g e d l = record {
   pc_even = g.pc_even;
   pc_low = g.pc_low;
@@ -202,28 +241,39 @@ state_after s c z g e d l = record {
   bytes = g.bytes;
   stands = omega (arith, e);
   done = omega (arith, d);
-  settled = record { before = later_before z.writes c l.before; granted = later_granted z.sent c l.granted; memory = l.memory ∙ sym (memory_stays (image_memory s.image) z.writes c l.before) };
+  settled = record {
+    before = later_before z.writes c l.before;
+    granted = later_granted z.sent c l.granted;
+    memory = l.memory ∙ sym (memory_stays (image_memory s.image) z.writes c l.before);
+  };
 }
 
-after_ctl : (k : Settings) (d : ℕ) (v : View) (i : Item) (pc : ℕ) (x : Times) → (after_event k d v i pc x).ctl ≡ ctl_after x.ctl v
+-- the times after an event: their registers, half, program counter and dummies
+after_ctl : (k : Settings) (d : ℕ) (v : View) (i : Item) (pc : ℕ) (x : Times)
+    → (after_event k d v i pc x).ctl ≡ ctl_after x.ctl v
 unfolding after_event
 after_ctl k d v i pc x = refl
 
-after_half : (k : Settings) (d : ℕ) (v : View) (i : Item) (pc : ℕ) (x : Times) → x.half < 2 → (after_event k d v i pc x).half < 2
+after_half : (k : Settings) (d : ℕ) (v : View) (i : Item) (pc : ℕ) (x : Times) → x.half < 2
+    → (after_event k d v i pc x).half < 2
 unfolding after_event
 after_half k d v i pc x l = turned_half x.half pc i.redirects l
 
-after_pc : (k : Settings) (d : ℕ) (v : View) (i : Item) (pc : ℕ) (x : Times) → pc % 2 ≡ 0 → pc < 2 ^ 32 → (i.redirects ≡ false → pc_in x.stream x.half ≡ pc)
+after_pc : (k : Settings) (d : ℕ) (v : View) (i : Item) (pc : ℕ) (x : Times) → pc % 2 ≡ 0 → pc < 2 ^ 32
+    → (i.redirects ≡ false → pc_in x.stream x.half ≡ pc)
     → pc_in (after_event k d v i pc x).stream (after_event k d v i pc x).half ≡ pc
 unfolding after_event
-after_pc k d v i pc x e l f = turned_pc k (marked i.fences (ctl_after x.ctl v) d x.stream) x.half d pc i.redirects e l f
+after_pc k d v i pc x e l f =
+    turned_pc k (marked i.fences (ctl_after x.ctl v) d x.stream) x.half d pc i.redirects e l f
 
-after_dummies : (k : Settings) (d : ℕ) (v : View) (i : Item) (pc : ℕ) (x : Times) → (after_event k d v i pc x).dummies ≡ dummies_after x.dummies v
+after_dummies : (k : Settings) (d : ℕ) (v : View) (i : Item) (pc : ℕ) (x : Times)
+    → (after_event k d v i pc x).dummies ≡ dummies_after x.dummies v
 unfolding after_event
 after_dummies k d v i pc x = refl
 
 -- an item with an event leaves its step
-pub steps : (s : Setup) (h y : Story) (i : Item) (c next_pc : ℕ) (csrs : Csrs) (regs : List ℕ) (choice : Choice) (e : Effect)
+pub steps : (s : Setup) (h y : Story) (i : Item) (c next_pc : ℕ) (csrs : Csrs) (regs : List ℕ) (choice : Choice)
+    (e : Effect)
     → Tied s h c next_pc csrs regs
     → Keeps h y i
     → Does c h.state.pc h.state.regs h.times.ctl y.times.dummies i (view_with s h choice) e (step_of s h choice c)
@@ -242,9 +292,11 @@ steps s h y i c next_pc csrs regs choice e t k d g l =
         regs_are = put_written e.write regs h.state.regs t.regs_are ∙ ap (map (encode_of 32 7)) d.left;
         ctl = after_ctl (settings_of s) c v i p.next.pc y.times ∙ ap (λ x. ctl_after x v) k.ctl ∙ d.ctl_is;
         half_low = after_half (settings_of s) c v i p.next.pc y.times k.half_low;
-        pc = after_pc (settings_of s) c v i p.next.pc y.times g.pc_even g.pc_low (λ b. k.pc ∙ ap (λ x. (x + 2 * i.parcels) % 2 ^ 32) t.pc ∙ sym (d.follows b));
+        pc = after_pc (settings_of s) c v i p.next.pc y.times g.pc_even g.pc_low
+            (λ b. k.pc ∙ ap (λ x. (x + 2 * i.parcels) % 2 ^ 32) t.pc ∙ sym (d.follows b));
       };
-      state = state_after s c (ended_by s h (Some choice) i c y) g d.stands refl (record { before = l.before; granted = l.granted; memory = l.memory });
+      state = state_after s c (ended_by s h (Some choice) i c y) g d.stands refl
+          (record { before = l.before; granted = l.granted; memory = l.memory });
       dummies = d.dummies ∙ sym (after_dummies (settings_of s) c v i p.next.pc y.times);
       redirect = d.redirect;
       fence = d.fence;

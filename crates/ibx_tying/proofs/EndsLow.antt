@@ -1,5 +1,6 @@
 -- The values of instructions are words.
-use Rattle.std.proofs.Common.{◌≡◌, ℕ, zero, suc, ◌+◌, ◌-◌, ◌*◌, ◌/◌, ◌%◌, ◌^◌, ◌<◌, ◌≤◌, Bool, true, false, refl, sym, ap, subst, ◌∙◌, arith}
+use Rattle.std.proofs.Common.{◌≡◌, ℕ, zero, suc, ◌+◌, ◌-◌, ◌*◌, ◌/◌, ◌%◌, ◌^◌, ◌<◌, ◌≤◌, Bool, true, false, refl, sym}
+use Rattle.std.proofs.Common.{ap, subst, ◌∙◌, arith}
 use Rattle.std.specs.Prelude.{if◌then◌else◌, ℤ, pos, negsuc, int_div, int_lt, int_rem, ◌==◌, nat_lt, unsigned_abs}
 use Rattle.std.specs.Int.{cast_unsigned, from_bool, is_negative, w32, int_div_euclid}
 use Rattle.std.specs.Int.Bits.{and_lt}
@@ -32,6 +33,7 @@ word_low : (z : ℤ) → unsigned_abs z < 2 ^ 32 → cast_unsigned w32 z < 2 ^ 3
 word_low (pos n) l = l
 word_low (negsuc n) l = grind arith
 
+-- flags, quotients and shifted numbers are words, and so is what the integer computations give
 flag_low : (b : Bool) → from_bool b < 2 ^ 32
 flag_low b = omega (arith, flag_small b)
 
@@ -43,7 +45,8 @@ quotient_low a n k l = omega (arith, l, div-le_self a n)
 
 shifted_low : (z : ℤ) (n : ℕ) → unsigned_abs z < 2 ^ 32 → unsigned_abs (int_div_euclid z (pos n)) < 2 ^ 32
 shifted_low (pos a) n l = quotient_low a n (2 ^ 32) l
-shifted_low (negsuc a) n l = let k : a / n < 2 ^ 32 - 1 = quotient_low a n (2 ^ 32 - 1) (omega (arith, l)) in omega (arith, k)
+shifted_low (negsuc a) n l =
+    let k : a / n < 2 ^ 32 - 1 = quotient_low a n (2 ^ 32 - 1) (omega (arith, l)) in omega (arith, k)
 
 pub alu_low : (op : AluOp) (a b : ℕ) → a < 2 ^ 32 → b < 2 ^ 32 → alu_of op a b < 2 ^ 32
 unfolding alu_of
@@ -54,13 +57,16 @@ alu_low Slt a b l k = flag_low (int_lt (signed a) (signed b))
 alu_low Sltu a b l k = flag_low (nat_lt a b)
 alu_low Xor a b l k = xor_lt 32 a b l k
 alu_low Srl a b l k = let le : a / 2 ^ shift_amount b ≤ a = div-le_self a (2 ^ shift_amount b) in omega (arith, le, l)
-alu_low Sra a b l k = word_low (int_div_euclid (signed a) (pos (2 ^ shift_amount b))) (shifted_low (signed a) (2 ^ shift_amount b) (signed_low a l))
+alu_low Sra a b l k = word_low (int_div_euclid (signed a) (pos (2 ^ shift_amount b)))
+    (shifted_low (signed a) (2 ^ shift_amount b) (signed_low a l))
 alu_low Or a b l k = or_lt 32 a b l k
 alu_low And a b l k = and_lt 32 a b l k
 
 -- ---- loads
 
-extended_low : (bits n : ℕ) (b : Bool) → n < 2 ^ 32 → (b ≡ false → n + (2 ^ 32 - 2 ^ bits) < 2 ^ 32) → (if b then n else n + (2 ^ 32 - 2 ^ bits)) < 2 ^ 32
+-- bytes and halfwords, extended or not, are words, and so is what a load gives
+extended_low : (bits n : ℕ) (b : Bool) → n < 2 ^ 32 → (b ≡ false → n + (2 ^ 32 - 2 ^ bits) < 2 ^ 32)
+    → (if b then n else n + (2 ^ 32 - 2 ^ bits)) < 2 ^ 32
 extended_low bits n true l f = l
 extended_low bits n false l f = f refl
 
@@ -76,7 +82,8 @@ four_low : (f : ℕ → ℕ) → f 0 < 256 → f 1 < 256 → f 2 < 256 → f 3 <
 unfolding bytes_number
 four_low f a b c d = omega (arith, a, b, c, d)
 
-pub load_low : (op : LoadOp) (m : Memory) (addr : ℕ) → ((x : ℕ) → m.byte x < 256) → loaded op (read_bytes m addr (size_of op)) < 2 ^ 32
+pub load_low : (op : LoadOp) (m : Memory) (addr : ℕ) → ((x : ℕ) → m.byte x < 256)
+    → loaded op (read_bytes m addr (size_of op)) < 2 ^ 32
 unfolding loaded
 load_low Lb m addr h =
     let n : ℕ = read_bytes m addr 1 in
@@ -84,17 +91,26 @@ load_low Lb m addr h =
     extended_low 8 n (nat_lt n (2 ^ 7)) (omega (arith, l)) (λ _. omega (arith, l))
 load_low Lh m addr h =
     let n : ℕ = read_bytes m addr 2 in
-    let l : n < 2 ^ 16 = two_low (λ k. read_byte m ((addr + k) % 2 ^ 32)) (read_low m ((addr + 0) % 2 ^ 32) h) (read_low m ((addr + 1) % 2 ^ 32) h) in
+    let l : n < 2 ^ 16 = two_low (λ k. read_byte m ((addr + k) % 2 ^ 32)) (read_low m ((addr + 0) % 2 ^ 32) h)
+    (read_low m ((addr + 1) % 2 ^ 32) h) in
     extended_low 16 n (nat_lt n (2 ^ 15)) (omega (arith, l)) (λ _. omega (arith, l))
-load_low Lw m addr h = four_low (λ k. read_byte m ((addr + k) % 2 ^ 32)) (read_low m ((addr + 0) % 2 ^ 32) h) (read_low m ((addr + 1) % 2 ^ 32) h) (read_low m ((addr + 2) % 2 ^ 32) h) (read_low m ((addr + 3) % 2 ^ 32) h)
-load_low Lbu m addr h = omega (arith, one_low (λ k. read_byte m ((addr + k) % 2 ^ 32)) (read_low m ((addr + 0) % 2 ^ 32) h))
-load_low Lhu m addr h = omega (arith, two_low (λ k. read_byte m ((addr + k) % 2 ^ 32)) (read_low m ((addr + 0) % 2 ^ 32) h) (read_low m ((addr + 1) % 2 ^ 32) h))
+load_low Lw m addr h = four_low (λ k. read_byte m ((addr + k) % 2 ^ 32)) (read_low m ((addr + 0) % 2 ^ 32) h)
+    (read_low m ((addr + 1) % 2 ^ 32) h) (read_low m ((addr + 2) % 2 ^ 32) h) (read_low m ((addr + 3) % 2 ^ 32) h)
+load_low Lbu m addr h =
+    omega (arith, one_low (λ k. read_byte m ((addr + k) % 2 ^ 32)) (read_low m ((addr + 0) % 2 ^ 32) h))
+load_low Lhu m addr h = omega (
+  arith,
+  two_low (λ k. read_byte m ((addr + k) % 2 ^ 32)) (read_low m ((addr + 0) % 2 ^ 32) h)
+      (read_low m ((addr + 1) % 2 ^ 32) h),
+)
 
 -- ---- products and quotients
 
+-- products, their halves and negations, and rests are words
 product_low : (a b : ℕ) → a < 2 ^ 32 → b < 2 ^ 32 → a * b < 2 ^ 64
 product_low zero b l k = omega arith
-product_low (suc a) b l k = let m : suc a * b < suc a * 2 ^ 32 = mul-lt-mul_of_pos_left k (omega arith) in omega (arith, l, m)
+product_low (suc a) b l k =
+    let m : suc a * b < suc a * 2 ^ 32 = mul-lt-mul_of_pos_left k (omega arith) in omega (arith, l, m)
 
 negated_low : (b : Bool) (n : ℕ) → n < 2 ^ 64 → negated 64 b n < 2 ^ 64
 negated_low true n l = mod_below (2 ^ 64 - n) (2 ^ 64) (omega arith)
@@ -114,27 +130,36 @@ negated_word false n l = l
 rest_low : (m n : ℕ) → m < 2 ^ 32 → m % n < 2 ^ 32
 rest_low m n l = omega (arith, l, mod-le m n)
 
+-- so is what a multiplication or division gives
 pub md_low : (op : MdOp) (a b : ℕ) → a < 2 ^ 32 → b < 2 ^ 32 → md_value op a b < 2 ^ 32
 unfolding md_value
 md_low Mul a b l k = mod_below (a * b) (2 ^ 32) (omega arith)
 md_low Mulh a b l k =
-    let h : unsigned_abs (signed a) * unsigned_abs (signed b) < 2 ^ 64 = product_low (unsigned_abs (signed a)) (unsigned_abs (signed b)) (signed_low a l) (signed_low b k) in
-    half_low _ (subst (λ n. n < 2 ^ 64) (signed_product (signed a) (signed b) h) (negated_low (differ (is_negative (signed a)) (is_negative (signed b))) _ h))
+    let h : unsigned_abs (signed a) * unsigned_abs (signed b) < 2 ^ 64 =
+    product_low (unsigned_abs (signed a)) (unsigned_abs (signed b)) (signed_low a l) (signed_low b k) in
+    half_low _ (subst (λ n. n < 2 ^ 64) (signed_product (signed a) (signed b) h)
+    (negated_low (differ (is_negative (signed a)) (is_negative (signed b))) _ h))
 md_low Mulhsu a b l k =
     let h : unsigned_abs (signed a) * b < 2 ^ 64 = product_low (unsigned_abs (signed a)) b (signed_low a l) k in
     half_low _ (subst (λ n. n < 2 ^ 64) (mixed_product (signed a) b h) (negated_low (is_negative (signed a)) _ h))
 md_low Mulhu a b l k = half_low (a * b) (product_low a b l k)
 md_low Div a b l k =
     if_low (b == 0) (2 ^ 32 - 1) (cast_unsigned w32 (int_div (signed a) (signed b))) (omega arith)
-    (subst (λ n. n < 2 ^ 32) (quotient_some (signed a) (signed b) (signed_low a l)) (negated_word (differ (is_negative (signed a)) (is_negative (signed b))) _ (quotient_low (unsigned_abs (signed a)) (unsigned_abs (signed b)) (2 ^ 32) (signed_low a l))))
+    (subst (λ n. n < 2 ^ 32) (quotient_some (signed a) (signed b) (signed_low a l))
+    (negated_word (differ (is_negative (signed a)) (is_negative (signed b))) _
+    (quotient_low (unsigned_abs (signed a)) (unsigned_abs (signed b)) (2 ^ 32) (signed_low a l))))
 md_low Divu a b l k = if_low (b == 0) (2 ^ 32 - 1) (a / b) (omega arith) (quotient_low a b (2 ^ 32) l)
 md_low Rem a b l k =
     if_low (b == 0) a (cast_unsigned w32 (int_rem (signed a) (signed b))) l
-    (subst (λ n. n < 2 ^ 32) (remainder_some (signed a) (signed b) (signed_low a l)) (negated_word (is_negative (signed a)) _ (rest_low (unsigned_abs (signed a)) (unsigned_abs (signed b)) (signed_low a l))))
+    (subst (λ n. n < 2 ^ 32) (remainder_some (signed a) (signed b) (signed_low a l))
+    (negated_word (is_negative (signed a)) _
+    (rest_low (unsigned_abs (signed a)) (unsigned_abs (signed b)) (signed_low a l))))
 md_low Remu a b l k = if_low (b == 0) a (a % b) l (rest_low a b l)
 
 -- the unit's result after the cost of a row is its value
-pub md_result : (op : MdOp) (a b cost : ℕ) (fixed : Bool) (mul : MulKind) (m : MulDiv) → a < 2 ^ 32 → b < 2 ^ 32 → m ≡ ticks cost (start_of op a b fixed mul) → cost ≡ md_cost_of op b fixed mul → result_of m ≡ md_value op a b
+pub md_result : (op : MdOp) (a b cost : ℕ) (fixed : Bool) (mul : MulKind) (m : MulDiv) → a < 2 ^ 32 → b < 2 ^ 32
+    → m ≡ ticks cost (start_of op a b fixed mul) → cost ≡ md_cost_of op b fixed mul → result_of m ≡ md_value op a b
 unfolding Finishes
 md_result op a b cost fixed mul m l k e c =
-    ap result_of (e ∙ ap (λ n. ticks n (start_of op a b fixed mul)) (c ∙ sym (left_of-start op a b fixed mul l k))) ∙ start_finishes op a b fixed mul l k
+    ap result_of (e ∙ ap (λ n. ticks n (start_of op a b fixed mul)) (c ∙ sym (left_of-start op a b fixed mul l k)))
+    ∙ start_finishes op a b fixed mul l k

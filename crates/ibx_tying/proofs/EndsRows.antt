@@ -1,5 +1,6 @@
 -- An instruction that retires is the step's.
-use Rattle.std.proofs.Common.{◌≡◌, ℕ, ◌+◌, ◌*◌, ◌%◌, ◌^◌, ◌<◌, Bool, true, false, List, length, All, Option, Some, None, refl, sym, ap, ◌∙◌, ◌≢◌, inl, inr, get_or-set_other}
+use Rattle.std.proofs.Common.{◌≡◌, ℕ, ◌+◌, ◌*◌, ◌%◌, ◌^◌, ◌<◌, Bool, true, false, List, length, All, Option, Some}
+use Rattle.std.proofs.Common.{None, refl, sym, ap, ◌∙◌, ◌≢◌, inl, inr, get_or-set_other}
 use Rattle.std.specs.Prelude.{◌==◌, if◌then◌else◌, slice_index, slice_set}
 use Rattle.std.proofs.lemmas.Bool.{cases_eq, eq-eqb, ne_eqb}
 use Rattle.std.proofs.lemmas.List.{length-set}
@@ -25,17 +26,25 @@ use Rattle.ibx_machine.specs.Core.{Core, Sight, is_fixed, retires, stage_word}
 use Rattle.ibx_joining.proofs.Ties.{IsValues}
 use Rattle.ibx_tying.proofs.EndsFrame.{Does, IsGood, with_write}
 
+-- the operands that the stage sees, unless timing is fixed
 abbrev pub ops_in : Core → Sight → Option (ℕ × ℕ)
 ops_in x g = if is_fixed x.csrs then None else Some (g.a, g.b)
 
 -- the step of an instruction that retires, in a state at a cycle
-abbrev pub retired : State → ℕ → ℕ → Option (ℕ × ℕ) → Memory → CsrValues → ℕ → ℕ → Option Access → Option ℕ → ℕ → Stepped
+abbrev pub retired : State → ℕ → ℕ → Option (ℕ × ℕ) → Memory → CsrValues → ℕ → ℕ → Option Access → Option ℕ → ℕ
+    → Stepped
 retired x c word ops memory csrs rd value mem ctl next =
-    stepped_by x.pc x.regs c word ops (record { done = Retires (record { rd = rd; value = value; mem = mem; ctl = ctl; next_pc = next }); memory = memory; csrs = csrs })
+    stepped_by x.pc x.regs c word ops
+    (record {
+      done = Retires (record { rd = rd; value = value; mem = mem; ctl = ctl; next_pc = next });
+      memory = memory;
+      csrs = csrs;
+    })
     (Retires (record { rd = rd; value = value; mem = mem; ctl = ctl; next_pc = next }))
 
 -- the stage holds the state's instruction, and sees its access and its operands
-pub record Stands (x : State) (c word : ℕ) (mem : Option Access) (ops : Option (ℕ × ℕ)) (d : Dummy) (core : Core) (g : Sight) : Type 0 where
+pub record Stands (x : State) (c word : ℕ) (mem : Option Access) (ops : Option (ℕ × ℕ)) (d : Dummy) (core : Core)
+    (g : Sight) : Type 0 where
   pub csrs : values core.csrs ≡ (at_cycle x c).csrs
   pub complemented : Complemented core.csrs
   pub pc : core.id.pc ≡ x.pc
@@ -44,56 +53,73 @@ pub record Stands (x : State) (c word : ℕ) (mem : Option Access) (ops : Option
   pub same_ops : ops_in core g ≡ ops
   pub dummies : core.dummies ≡ d
 
-writes_is : (regs : List ℕ) (rd value : ℕ) (b : Bool) → with_write (if b then None else Some (rd, value)) regs ≡ (if b then regs else slice_set regs rd value)
+-- a write to x0 is none
+writes_is : (regs : List ℕ) (rd value : ℕ) (b : Bool)
+    → with_write (if b then None else Some (rd, value)) regs ≡ (if b then regs else slice_set regs rd value)
 writes_is regs rd value true = refl
 writes_is regs rd value false = refl
 
+-- a retirement's event, by its parts in their order
 made : ℕ → ℕ → ℕ → ℕ → ℕ → Option ℕ → Option Access → Option (ℕ × ℕ) → Option Event
 made c rd value pc w ctl mem o = Some (RetireEvent c pc w rd (if rd == 0 then 0 else value) mem ctl o)
 
-made_is : (c rd value : ℕ) (ctl : Option ℕ) (a b u v : ℕ) (m n : Option Access) (o p : Option (ℕ × ℕ)) → a ≡ b → u ≡ v → m ≡ n → o ≡ p → made c rd value a u ctl m o ≡ made c rd value b v ctl n p
+-- equal parts make equal events
+made_is : (c rd value : ℕ) (ctl : Option ℕ) (a b u v : ℕ) (m n : Option Access) (o p : Option (ℕ × ℕ)) → a ≡ b → u ≡ v
+    → m ≡ n → o ≡ p → made c rd value a u ctl m o ≡ made c rd value b v ctl n p
 made_is c rd value ctl a b u v m n o p e f h i = cc
 
-pub retires_does : (x : State) (c word rd value next : ℕ) (mem : Option Access) (ctlw : Option ℕ) (ops : Option (ℕ × ℕ)) (memory : Memory) (csrs : CsrValues) (left : Csrs)
+-- the effect of a retirement is its step's
+pub retires_does : (x : State) (c word rd value next : ℕ) (mem : Option Access) (ctlw : Option ℕ)
+    (ops : Option (ℕ × ℕ)) (memory : Memory) (csrs : CsrValues) (left : Csrs)
     (core : Core) (g : Sight) (ctl : Ctl) (d : Dummy) (i : Item) (v : View) (r : Bool)
     → Stands x c word mem ops d core g → values left ≡ csrs → Complemented left
     → r ≡ i.redirects → i.fences ≡ false → d ≡ dummies_after d v → ctl_after ctl v ≡ ctl_of csrs
     → (i.redirects ≡ false → next ≡ (x.pc + 2 * i.parcels) % 2 ^ 32)
-    → Does c x.pc x.regs ctl d i v (retires core g r rd value ctlw next left) (retired x c word ops memory csrs rd value mem ctlw next)
+    → Does c x.pc x.regs ctl d i v (retires core g r rd value ctlw next left)
+    (retired x c word ops memory csrs rd value mem ctlw next)
 unfolding made
-retires_does x c word rd value next mem ctlw ops memory csrs left core g ctl d i v r t es ec er ef ed ek follows = record {
-  happens = made_is c rd value ctlw core.id.pc x.pc (stage_word core.id) word g.access mem (ops_in core g) ops t.pc t.fetched t.access t.same_ops;
-  csrs = es;
-  complemented = ec;
-  next_pc = refl;
-  left = writes_is x.regs rd value (rd == 0);
-  stands = refl;
-  redirect = ap (λ b. target_if b next) er;
-  fence = sym ef;
-  dummies = t.dummies ∙ ed;
-  ctl_is = ek;
-  follows = follows;
-}
+retires_does x c word rd value next mem ctlw ops memory csrs left core g ctl d i v r t es ec er ef ed ek follows =
+    record {
+      happens = made_is c rd value ctlw core.id.pc x.pc (stage_word core.id) word g.access mem (ops_in core g) ops t.pc
+          t.fetched t.access t.same_ops;
+      csrs = es;
+      complemented = ec;
+      next_pc = refl;
+      left = writes_is x.regs rd value (rd == 0);
+      stands = refl;
+      redirect = ap (λ b. target_if b next) er;
+      fence = sym ef;
+      dummies = t.dummies ∙ ed;
+      ctl_is = ek;
+      follows = follows;
+    }
 
 -- ---- the state after it
 
-reg_zero : (regs : List ℕ) (rd value : ℕ) → slice_index regs 0 ≡ 0 → rd ≢ 0 → slice_index (slice_set regs rd value) 0 ≡ 0
+-- a write leaves x0 at 0, as many registers, and words
+reg_zero : (regs : List ℕ) (rd value : ℕ) → slice_index regs 0 ≡ 0 → rd ≢ 0
+    → slice_index (slice_set regs rd value) 0 ≡ 0
 reg_zero regs rd value e n = get_or-set_other regs rd 0 value 0 (λ k. n (sym k)) ∙ e
 
 put_zero : (regs : List ℕ) (rd value : ℕ) → slice_index regs 0 ≡ 0 → slice_index (with_reg regs rd value) 0 ≡ 0
-put_zero regs rd value e = elim (cases_eq rd 0) [ inl k ↦ rw (eq-eqb rd 0 k) e | inr n ↦ rw (ne_eqb rd 0 n) (reg_zero regs rd value e n) ]
+put_zero regs rd value e =
+    elim (cases_eq rd 0) [ inl k ↦ rw (eq-eqb rd 0 k) e | inr n ↦ rw (ne_eqb rd 0 n) (reg_zero regs rd value e n) ]
 
-put_count : (regs : List ℕ) (rd value : ℕ) (b : Bool) → length (if b then regs else slice_set regs rd value) ≡ length regs
+put_count : (regs : List ℕ) (rd value : ℕ) (b : Bool)
+    → length (if b then regs else slice_set regs rd value) ≡ length regs
 put_count regs rd value true = refl
 put_count regs rd value false = length-set regs rd value
 
-put_low : (regs : List ℕ) (rd value : ℕ) (b : Bool) → All (λ v. v < 2 ^ 32) regs → value < 2 ^ 32 → All (λ v. v < 2 ^ 32) (if b then regs else slice_set regs rd value)
+put_low : (regs : List ℕ) (rd value : ℕ) (b : Bool) → All (λ v. v < 2 ^ 32) regs → value < 2 ^ 32
+    → All (λ v. v < 2 ^ 32) (if b then regs else slice_set regs rd value)
 put_low regs rd value true a l = a
 put_low regs rd value false a l = All-set (λ v. v < 2 ^ 32) regs rd value l a
 
-pub retired_good : (ram : Ram) (x : State) (c word rd value next : ℕ) (mem : Option Access) (ctlw : Option ℕ) (ops : Option (ℕ × ℕ)) (memory : Memory) (csrs : CsrValues)
-    → IsGood ram x → memory.ram ≡ ram → ((a : ℕ) → memory.byte a < 256) → IsValues csrs → value < 2 ^ 32 → next % 2 ≡ 0 → next < 2 ^ 32
-    → IsGood ram (retired x c word ops memory csrs rd value mem ctlw next).next
+-- so the state after it is valid
+pub retired_good : (ram : Ram) (x : State) (c word rd value next : ℕ) (mem : Option Access) (ctlw : Option ℕ)
+    (ops : Option (ℕ × ℕ)) (memory : Memory) (csrs : CsrValues)
+    → IsGood ram x → memory.ram ≡ ram → ((a : ℕ) → memory.byte a < 256) → IsValues csrs → value < 2 ^ 32 → next % 2 ≡ 0
+    → next < 2 ^ 32 → IsGood ram (retired x c word ops memory csrs rd value mem ctlw next).next
 retired_good ram x c word rd value next mem ctlw ops memory csrs g er eb ic lv even low = record {
   pc_even = even;
   pc_low = low;
@@ -106,23 +132,27 @@ retired_good ram x c word rd value next mem ctlw ops memory csrs g er eb ic lv e
 }
 
 -- with what it leaves of the dummies, and whether it is a FENCE.I
-pub any_does : (x : State) (c word rd value next : ℕ) (mem : Option Access) (ctlw : Option ℕ) (ops : Option (ℕ × ℕ)) (memory : Memory) (csrs : CsrValues) (left : Csrs) (dd : Dummy) (ff : Bool)
+pub any_does : (x : State) (c word rd value next : ℕ) (mem : Option Access) (ctlw : Option ℕ) (ops : Option (ℕ × ℕ))
+    (memory : Memory) (csrs : CsrValues) (left : Csrs) (dd : Dummy) (ff : Bool)
     (core : Core) (g : Sight) (ctl : Ctl) (d : Dummy) (i : Item) (v : View) (r : Bool)
     → Stands x c word mem ops d core g → values left ≡ csrs → Complemented left
     → r ≡ i.redirects → ff ≡ i.fences → dd ≡ dummies_after d v → ctl_after ctl v ≡ ctl_of csrs
     → (i.redirects ≡ false → next ≡ (x.pc + 2 * i.parcels) % 2 ^ 32)
-    → Does c x.pc x.regs ctl d i v (record (retires core g r rd value ctlw next left) { dummies = dd; fence = ff }) (retired x c word ops memory csrs rd value mem ctlw next)
+    → Does c x.pc x.regs ctl d i v (record (retires core g r rd value ctlw next left) { dummies = dd; fence = ff })
+    (retired x c word ops memory csrs rd value mem ctlw next)
 unfolding made
-any_does x c word rd value next mem ctlw ops memory csrs left dd ff core g ctl d i v r t es ec er ef ed ek follows = record {
-  happens = made_is c rd value ctlw core.id.pc x.pc (stage_word core.id) word g.access mem (ops_in core g) ops t.pc t.fetched t.access t.same_ops;
-  csrs = es;
-  complemented = ec;
-  next_pc = refl;
-  left = writes_is x.regs rd value (rd == 0);
-  stands = refl;
-  redirect = ap (λ b. target_if b next) er;
-  fence = ef;
-  dummies = ed;
-  ctl_is = ek;
-  follows = follows;
-}
+any_does x c word rd value next mem ctlw ops memory csrs left dd ff core g ctl d i v r t es ec er ef ed ek follows =
+    record {
+      happens = made_is c rd value ctlw core.id.pc x.pc (stage_word core.id) word g.access mem (ops_in core g) ops t.pc
+          t.fetched t.access t.same_ops;
+      csrs = es;
+      complemented = ec;
+      next_pc = refl;
+      left = writes_is x.regs rd value (rd == 0);
+      stands = refl;
+      redirect = ap (λ b. target_if b next) er;
+      fence = ef;
+      dummies = ed;
+      ctl_is = ek;
+      follows = follows;
+    }

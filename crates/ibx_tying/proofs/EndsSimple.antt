@@ -1,9 +1,11 @@
 -- The rows of computations, jumps, branches and calls.
-use Rattle.std.proofs.Common.{◌≡◌, ℕ, ◌+◌, ◌*◌, ◌/◌, ◌%◌, ◌^◌, ◌<◌, Bool, true, false, not, Option, Some, None, refl, sym, ap, ap₂, ◌∙◌, arith}
+use Rattle.std.proofs.Common.{◌≡◌, ℕ, ◌+◌, ◌*◌, ◌/◌, ◌%◌, ◌^◌, ◌<◌, Bool, true, false, not, Option, Some, None, refl}
+use Rattle.std.proofs.Common.{sym, ap, ap₂, ◌∙◌, arith}
 use Rattle.std.specs.Prelude.{◌||◌, ◌==◌, if◌then◌else◌, bit_and}
 use Rattle.std.proofs.lemmas.Nat.{mod_below}
 use Rattle.ibx_isa.specs.declared.insn.Insn.{Insn}
-use Rattle.ibx_isa.specs.declared.insn.Insn.TheVariants.{Lui, Auipc, Jal, Jalr, Branch, AluImm, Alu, MulDiv, Fence, Ecall, Ebreak, Wfi}
+use Rattle.ibx_isa.specs.declared.insn.Insn.TheVariants.{Lui, Auipc, Jal, Jalr, Branch, AluImm, Alu, MulDiv, Fence}
+use Rattle.ibx_isa.specs.declared.insn.Insn.TheVariants.{Ecall, Ebreak, Wfi}
 use Rattle.ibx_isa.specs.declared.insn.AluOp.{AluOp}
 use Rattle.ibx_isa.specs.declared.insn.BranchOp.{BranchOp}
 use Rattle.ibx_isa.specs.declared.insn.MdOp.{MdOp}
@@ -22,7 +24,8 @@ use Rattle.ibx_time.specs.Settings.{settings_of}
 use Rattle.ibx_time.specs.Controls.{Ctl, is_fixed}
 use Rattle.ibx_time.specs.Items.{Item, branching, is_turned, parcels_of, plain, retired_item}
 use Rattle.ibx_machine.specs.Core.{Core, cause_of, retired_by, retires, stage_word, ticked}
-use Rattle.ibx_tying.proofs.EndsInsn.{Case, Ended, Holds, Known, Meets, cause_ends, effect_now, next_is, tval_of, no_trap_phase, now, retire_kind, retire_word, row_item}
+use Rattle.ibx_tying.proofs.EndsInsn.{Case, Ended, Holds, Known, Meets, cause_ends, effect_now, next_is, tval_of}
+use Rattle.ibx_tying.proofs.EndsInsn.{no_trap_phase, now, retire_kind, retire_word, row_item}
 use Rattle.ibx_tying.proofs.EndsLow.{alu_low}
 use Rattle.ibx_tying.proofs.EndsPlain.{IsPlainRow, follow_ends, insn_step, next_even, low_reg, plain_ends, plain_step}
 use Rattle.ibx_csr.specs.Modes.{may_wait}
@@ -30,45 +33,113 @@ use Rattle.ibx_csr.specs.Modes.{may_wait}
 -- what is shown of an instruction
 abbrev pub RowEnds : Case → ℕ → ℕ → ℕ → Insn → Type 0
 RowEnds m word len lines insn =
-    Known m → Meets m (insn_step m word len lines insn) → Holds m word len insn (view_of (insn_step m word len lines insn).event) → Ended m (effect_now m) (insn_step m word len lines insn)
+    Known m → Meets m (insn_step m word len lines insn)
+    → Holds m word len insn (view_of (insn_step m word len lines insn).event)
+    → Ended m (effect_now m) (insn_step m word len lines insn)
 
+-- each of these rows is plain
 lui_row : (rd imm : ℕ) → IsPlainRow (Lui rd imm)
 unfolding retired_item
-lui_row rd imm = record { none = λ a b. refl; ctl = λ c. refl; seed = λ d. refl; fences = λ k c v n. refl; portions = λ k c v n. refl; parcels = λ k c v n. refl }
+lui_row rd imm = record {
+  none = λ a b. refl;
+  ctl = λ c. refl;
+  seed = λ d. refl;
+  fences = λ k c v n. refl;
+  portions = λ k c v n. refl;
+  parcels = λ k c v n. refl;
+}
 
 auipc_row : (rd imm : ℕ) → IsPlainRow (Auipc rd imm)
 unfolding retired_item
-auipc_row rd imm = record { none = λ a b. refl; ctl = λ c. refl; seed = λ d. refl; fences = λ k c v n. refl; portions = λ k c v n. refl; parcels = λ k c v n. refl }
+auipc_row rd imm = record {
+  none = λ a b. refl;
+  ctl = λ c. refl;
+  seed = λ d. refl;
+  fences = λ k c v n. refl;
+  portions = λ k c v n. refl;
+  parcels = λ k c v n. refl;
+}
 
 jal_row : (rd imm : ℕ) → IsPlainRow (Jal rd imm)
 unfolding retired_item
-jal_row rd imm = record { none = λ a b. refl; ctl = λ c. refl; seed = λ d. refl; fences = λ k c v n. refl; portions = λ k c v n. refl; parcels = λ k c v n. refl }
+jal_row rd imm = record {
+  none = λ a b. refl;
+  ctl = λ c. refl;
+  seed = λ d. refl;
+  fences = λ k c v n. refl;
+  portions = λ k c v n. refl;
+  parcels = λ k c v n. refl;
+}
 
 jalr_row : (rd rs1 imm : ℕ) → IsPlainRow (Jalr rd rs1 imm)
 unfolding retired_item
-jalr_row rd rs1 imm = record { none = λ a b. refl; ctl = λ c. refl; seed = λ d. refl; fences = λ k c v n. refl; portions = λ k c v n. refl; parcels = λ k c v n. refl }
+jalr_row rd rs1 imm = record {
+  none = λ a b. refl;
+  ctl = λ c. refl;
+  seed = λ d. refl;
+  fences = λ k c v n. refl;
+  portions = λ k c v n. refl;
+  parcels = λ k c v n. refl;
+}
 
 alu_imm_row : (op : AluOp) (rd rs1 imm : ℕ) → IsPlainRow (AluImm op rd rs1 imm)
 unfolding retired_item
-alu_imm_row op rd rs1 imm = record { none = λ a b. refl; ctl = λ c. refl; seed = λ d. refl; fences = λ k c v n. refl; portions = λ k c v n. refl; parcels = λ k c v n. refl }
+alu_imm_row op rd rs1 imm = record {
+  none = λ a b. refl;
+  ctl = λ c. refl;
+  seed = λ d. refl;
+  fences = λ k c v n. refl;
+  portions = λ k c v n. refl;
+  parcels = λ k c v n. refl;
+}
 
 alu_row : (op : AluOp) (rd rs1 rs2 : ℕ) → IsPlainRow (Alu op rd rs1 rs2)
 unfolding retired_item
-alu_row op rd rs1 rs2 = record { none = λ a b. refl; ctl = λ c. refl; seed = λ d. refl; fences = λ k c v n. refl; portions = λ k c v n. refl; parcels = λ k c v n. refl }
+alu_row op rd rs1 rs2 = record {
+  none = λ a b. refl;
+  ctl = λ c. refl;
+  seed = λ d. refl;
+  fences = λ k c v n. refl;
+  portions = λ k c v n. refl;
+  parcels = λ k c v n. refl;
+}
 
 md_row : (op : MdOp) (rd rs1 rs2 : ℕ) → IsPlainRow (MulDiv op rd rs1 rs2)
 unfolding retired_item
-md_row op rd rs1 rs2 = record { none = λ a b. refl; ctl = λ c. refl; seed = λ d. refl; fences = λ k c v n. refl; portions = λ k c v n. refl; parcels = λ k c v n. refl }
+md_row op rd rs1 rs2 = record {
+  none = λ a b. refl;
+  ctl = λ c. refl;
+  seed = λ d. refl;
+  fences = λ k c v n. refl;
+  portions = λ k c v n. refl;
+  parcels = λ k c v n. refl;
+}
 
 fence_row : IsPlainRow Fence
 unfolding retired_item
-fence_row = record { none = λ a b. refl; ctl = λ c. refl; seed = λ d. refl; fences = λ k c v n. refl; portions = λ k c v n. refl; parcels = λ k c v n. refl }
+fence_row = record {
+  none = λ a b. refl;
+  ctl = λ c. refl;
+  seed = λ d. refl;
+  fences = λ k c v n. refl;
+  portions = λ k c v n. refl;
+  parcels = λ k c v n. refl;
+}
 
 wfi_row : IsPlainRow Wfi
 unfolding retired_item
-wfi_row = record { none = λ a b. refl; ctl = λ c. refl; seed = λ d. refl; fences = λ k c v n. refl; portions = λ k c v n. refl; parcels = λ k c v n. refl }
+wfi_row = record {
+  none = λ a b. refl;
+  ctl = λ c. refl;
+  seed = λ d. refl;
+  fences = λ k c v n. refl;
+  portions = λ k c v n. refl;
+  parcels = λ k c v n. refl;
+}
 
-branch_by : (b : Bool) (i : Item) → ((branching b i).fences ≡ i.fences) × ((branching b i).portions ≡ i.portions) × ((branching b i).parcels ≡ i.parcels)
+-- a branch that is taken costs a cycle more, and is a plain row too
+branch_by : (b : Bool) (i : Item) → ((branching b i).fences ≡ i.fences) × ((branching b i).portions ≡ i.portions)
+    × ((branching b i).parcels ≡ i.parcels)
 branch_by true i = (refl, refl, refl)
 branch_by false i = (refl, refl, refl)
 
@@ -84,57 +155,72 @@ branch_row op rs1 rs2 imm = record {
 }
 
 -- the operands of a row that retires
-ops_of : (m : Case) (word len rd value next : ℕ) (insn : Insn) → Holds m word len insn (view_of (plain_step m word insn rd value next).event)
+ops_of : (m : Case) (word len rd value next : ℕ) (insn : Insn)
+    → Holds m word len insn (view_of (plain_step m word insn rd value next).event)
     → (m.g.a ≡ reg m.h.state (source1 insn)) × (m.g.b ≡ reg m.h.state (source2 insn))
 ops_of m word len rd value next insn hd =
-    hd.operands_are (no_trap_phase (view_of (plain_step m word insn rd value next).event) (retire_kind m word insn m.h.state.memory (csr_tick (now m).csrs true None) rd value None None next))
+    hd.operands_are (no_trap_phase (view_of (plain_step m word insn rd value next).event)
+    (retire_kind m word insn m.h.state.memory (csr_tick (now m).csrs true None) rd value None None next))
 
+-- each ends as its step: LUI, AUIPC and the integer computations
 pub lui_ends : (m : Case) (word len lines rd imm : ℕ) → RowEnds m word len lines (Lui rd imm)
 unfolding execute finished retired_by
-lui_ends m word len lines rd imm k t hd = follow_ends m word len rd imm imm (Lui rd imm) (lui_row rd imm) k t hd refl refl hd.well.1
+lui_ends m word len lines rd imm k t hd =
+    follow_ends m word len rd imm imm (Lui rd imm) (lui_row rd imm) k t hd refl refl hd.well.1
 
 pub auipc_ends : (m : Case) (word len lines rd imm : ℕ) → RowEnds m word len lines (Auipc rd imm)
 unfolding execute finished retired_by
 auipc_ends m word len lines rd imm k t hd =
-    follow_ends m word len rd ((m.h.state.pc + imm) % 2 ^ 32) ((m.core.id.pc + imm) % 2 ^ 32) (Auipc rd imm) (auipc_row rd imm) k t hd refl
+    follow_ends m word len rd ((m.h.state.pc + imm) % 2 ^ 32) ((m.core.id.pc + imm) % 2 ^ 32) (Auipc rd imm)
+    (auipc_row rd imm) k t hd refl
     (ap (λ pc. (pc + imm) % 2 ^ 32) k.pc) (mod_below (m.h.state.pc + imm) (2 ^ 32) (omega arith))
 
-pub alu_imm_ends : (m : Case) (word len lines rd rs1 imm : ℕ) (op : AluOp) → RowEnds m word len lines (AluImm op rd rs1 imm)
+pub alu_imm_ends : (m : Case) (word len lines rd rs1 imm : ℕ) (op : AluOp)
+    → RowEnds m word len lines (AluImm op rd rs1 imm)
 unfolding execute finished retired_by
 alu_imm_ends m word len lines rd rs1 imm op k t hd =
     let next : ℕ = (m.h.state.pc + len) % 2 ^ 32 in
     let ops = ops_of m word len rd (alu_of op (reg m.h.state rs1) imm) next (AluImm op rd rs1 imm) hd in
-    follow_ends m word len rd (alu_of op (reg m.h.state rs1) imm) (alu_of op m.g.a imm) (AluImm op rd rs1 imm) (alu_imm_row op rd rs1 imm) k t hd refl
-    (ap (λ a. alu_of op a imm) ops.0) (alu_low op (reg m.h.state rs1) imm (low_reg m.s.image.ram m.h.state rs1 k.good hd.well.1) hd.well.2)
+    follow_ends m word len rd (alu_of op (reg m.h.state rs1) imm) (alu_of op m.g.a imm) (AluImm op rd rs1 imm)
+    (alu_imm_row op rd rs1 imm) k t hd refl
+    (ap (λ a. alu_of op a imm) ops.0)
+    (alu_low op (reg m.h.state rs1) imm (low_reg m.s.image.ram m.h.state rs1 k.good hd.well.1) hd.well.2)
 
 pub alu_ends : (m : Case) (word len lines rd rs1 rs2 : ℕ) (op : AluOp) → RowEnds m word len lines (Alu op rd rs1 rs2)
 unfolding execute finished retired_by
 alu_ends m word len lines rd rs1 rs2 op k t hd =
     let next : ℕ = (m.h.state.pc + len) % 2 ^ 32 in
     let ops = ops_of m word len rd (alu_of op (reg m.h.state rs1) (reg m.h.state rs2)) next (Alu op rd rs1 rs2) hd in
-    follow_ends m word len rd (alu_of op (reg m.h.state rs1) (reg m.h.state rs2)) (alu_of op m.g.a m.g.b) (Alu op rd rs1 rs2) (alu_row op rd rs1 rs2) k t hd refl
+    follow_ends m word len rd (alu_of op (reg m.h.state rs1) (reg m.h.state rs2)) (alu_of op m.g.a m.g.b)
+    (Alu op rd rs1 rs2) (alu_row op rd rs1 rs2) k t hd refl
     (ap₂ (λ a b. alu_of op a b) ops.0 ops.1)
-    (alu_low op (reg m.h.state rs1) (reg m.h.state rs2) (low_reg m.s.image.ram m.h.state rs1 k.good hd.well.1) (low_reg m.s.image.ram m.h.state rs2 k.good hd.well.2))
+    (alu_low op (reg m.h.state rs1) (reg m.h.state rs2) (low_reg m.s.image.ram m.h.state rs1 k.good hd.well.1)
+    (low_reg m.s.image.ram m.h.state rs2 k.good hd.well.2))
 
 -- the unit's result is the value
-pub md_ends : (m : Case) (word len lines rd rs1 rs2 : ℕ) (op : MdOp) → result_of m.g.md ≡ md_value op (reg m.h.state rs1) (reg m.h.state rs2) → md_value op (reg m.h.state rs1) (reg m.h.state rs2) < 2 ^ 32
-    → RowEnds m word len lines (MulDiv op rd rs1 rs2)
+pub md_ends : (m : Case) (word len lines rd rs1 rs2 : ℕ) (op : MdOp)
+    → result_of m.g.md ≡ md_value op (reg m.h.state rs1) (reg m.h.state rs2)
+    → md_value op (reg m.h.state rs1) (reg m.h.state rs2) < 2 ^ 32 → RowEnds m word len lines (MulDiv op rd rs1 rs2)
 unfolding execute finished retired_by
 md_ends m word len lines rd rs1 rs2 op e l k t hd =
-    follow_ends m word len rd (md_value op (reg m.h.state rs1) (reg m.h.state rs2)) (result_of m.g.md) (MulDiv op rd rs1 rs2) (md_row op rd rs1 rs2) k t hd refl e l
+    follow_ends m word len rd (md_value op (reg m.h.state rs1) (reg m.h.state rs2)) (result_of m.g.md)
+    (MulDiv op rd rs1 rs2) (md_row op rd rs1 rs2) k t hd refl e l
 
+-- FENCE ends as its step
 pub fence_ends : (m : Case) (word len lines : ℕ) → RowEnds m word len lines Fence
 unfolding execute finished retired_by
 fence_ends m word len lines k t hd = follow_ends m word len 0 0 0 Fence fence_row k t hd refl refl (omega arith)
 
 -- ---- jumps
 
+-- two cases that can't both be
 apart : {P : Type 0} → true ≡ false → P
 apart e = absurd (no e)
   where
     no : true ≡ false → ⊥
     no q = cc
 
+-- JAL and JALR end as their steps
 pub jal_ends : (m : Case) (word len lines rd imm : ℕ) → RowEnds m word len lines (Jal rd imm)
 unfolding execute finished retired_by retired_item
 jal_ends m word len lines rd imm k t hd =
@@ -143,12 +229,17 @@ jal_ends m word len lines rd imm k t hd =
     let v : View = view_of (plain_step m word (Jal rd imm) rd link next).event in
     let csrs : CsrValues = csr_tick (now m).csrs true None in
     let item : m.i ≡ retired_item (settings_of m.s) m.h.times.ctl v (Some (Jal rd imm)) (plain (parcels_of word)) =
-    t.item ∙ row_item (settings_of m.s) m.h.times.ctl v word (Jal rd imm) (retire_kind m word (Jal rd imm) m.h.state.memory csrs rd link None None next) (retire_word m word (Jal rd imm) m.h.state.memory csrs rd link None None next) hd.insn_is in
+    t.item ∙ row_item (settings_of m.s) m.h.times.ctl v word (Jal rd imm)
+    (retire_kind m word (Jal rd imm) m.h.state.memory csrs rd link None None next)
+    (retire_word m word (Jal rd imm) m.h.state.memory csrs rd link None None next) hd.insn_is in
     plain_ends m word len rd link next (Jal rd imm) (jal_row rd imm) k t hd
-    (ap (λ x. retires m.core m.g m.i.redirects rd x None ((m.core.id.pc + imm) % 2 ^ 32) (ticked m.core)) (next_is m word len k hd.word_is hd.len_is)
+    (ap (λ x. retires m.core m.g m.i.redirects rd x None ((m.core.id.pc + imm) % 2 ^ 32) (ticked m.core))
+    (next_is m word len k hd.word_is hd.len_is)
     ∙ ap (λ pc. retires m.core m.g m.i.redirects rd link None ((pc + imm) % 2 ^ 32) (ticked m.core)) k.pc)
     (λ q. apart (sym (ap (λ (j : Item). j.redirects) item) ∙ q))
-    (mod_below (m.h.state.pc + len) (2 ^ 32) (omega arith)) (let pe = k.good.pc_even in let ie : imm % 2 ≡ 0 = hd.well.2 in omega (arith, pe, ie)) (mod_below (m.h.state.pc + imm) (2 ^ 32) (omega arith))
+    (mod_below (m.h.state.pc + len) (2 ^ 32) (omega arith))
+    (let pe = k.good.pc_even in let ie : imm % 2 ≡ 0 = hd.well.2 in omega (arith, pe, ie))
+    (mod_below (m.h.state.pc + imm) (2 ^ 32) (omega arith))
 
 pub jalr_ends : (m : Case) (word len lines rd rs1 imm : ℕ) → RowEnds m word len lines (Jalr rd rs1 imm)
 unfolding execute finished retired_by retired_item
@@ -158,13 +249,18 @@ jalr_ends m word len lines rd rs1 imm k t hd =
     let v : View = view_of (plain_step m word (Jalr rd rs1 imm) rd link next).event in
     let csrs : CsrValues = csr_tick (now m).csrs true None in
     let ops = ops_of m word len rd link next (Jalr rd rs1 imm) hd in
-    let item : m.i ≡ retired_item (settings_of m.s) m.h.times.ctl v (Some (Jalr rd rs1 imm)) (plain (parcels_of word)) =
-    t.item ∙ row_item (settings_of m.s) m.h.times.ctl v word (Jalr rd rs1 imm) (retire_kind m word (Jalr rd rs1 imm) m.h.state.memory csrs rd link None None next) (retire_word m word (Jalr rd rs1 imm) m.h.state.memory csrs rd link None None next) hd.insn_is in
+    let item : m.i ≡ retired_item (settings_of m.s) m.h.times.ctl v (Some (Jalr rd rs1 imm))
+    (plain (parcels_of word)) =
+    t.item ∙ row_item (settings_of m.s) m.h.times.ctl v word (Jalr rd rs1 imm)
+    (retire_kind m word (Jalr rd rs1 imm) m.h.state.memory csrs rd link None None next)
+    (retire_word m word (Jalr rd rs1 imm) m.h.state.memory csrs rd link None None next) hd.insn_is in
     plain_ends m word len rd link next (Jalr rd rs1 imm) (jalr_row rd rs1 imm) k t hd
-    (ap (λ x. retires m.core m.g m.i.redirects rd x None ((m.g.a + imm) % 2 ^ 32 / 2 * 2) (ticked m.core)) (next_is m word len k hd.word_is hd.len_is)
+    (ap (λ x. retires m.core m.g m.i.redirects rd x None ((m.g.a + imm) % 2 ^ 32 / 2 * 2) (ticked m.core))
+    (next_is m word len k hd.word_is hd.len_is)
     ∙ ap (λ a. retires m.core m.g m.i.redirects rd link None ((a + imm) % 2 ^ 32 / 2 * 2) (ticked m.core)) ops.0)
     (λ q. apart (sym (ap (λ (j : Item). j.redirects) item) ∙ q))
-    (mod_below (m.h.state.pc + len) (2 ^ 32) (omega arith)) (twice_even ((reg m.h.state rs1 + imm) % 2 ^ 32 / 2)) (half_low (reg m.h.state rs1 + imm))
+    (mod_below (m.h.state.pc + len) (2 ^ 32) (omega arith)) (twice_even ((reg m.h.state rs1 + imm) % 2 ^ 32 / 2))
+    (half_low (reg m.h.state rs1 + imm))
   where
     twice_even : (n : ℕ) → n * 2 % 2 ≡ 0
     twice_even n = omega arith
@@ -174,16 +270,21 @@ jalr_ends m word len lines rd rs1 imm k t hd =
 
 -- ---- branches
 
+-- a branch redirects where it is taken or timing is fixed, to an even word
 turned_item : (fixed : Bool) (op : BranchOp) (a b n : ℕ) (free : Bool) → fixed ≡ not free
-    → (branching (is_turned fixed op (if free then Some (a, b) else None)) (plain n)).redirects ≡ false → branch_of op a b ≡ false
-turned_item fixed op a b n true e q = by_turn (branch_of op a b) (sym (ap (λ f. (branching (is_turned f op (Some (a, b))) (plain n)).redirects) e) ∙ q)
+    → (branching (is_turned fixed op (if free then Some (a, b) else None)) (plain n)).redirects ≡ false
+    → branch_of op a b ≡ false
+turned_item fixed op a b n true e q =
+    by_turn (branch_of op a b) (sym (ap (λ f. (branching (is_turned f op (Some (a, b))) (plain n)).redirects) e) ∙ q)
   where
     by_turn : (t : Bool) → (branching t (plain n)).redirects ≡ false → t ≡ false
     by_turn true z = z
     by_turn false z = refl
-turned_item fixed op a b n false e q = apart (sym (ap (λ f. (branching (is_turned f op None) (plain n)).redirects) e) ∙ q)
+turned_item fixed op a b n false e q =
+    apart (sym (ap (λ f. (branching (is_turned f op None) (plain n)).redirects) e) ∙ q)
 
-branch_even : (b : Bool) (pc imm next : ℕ) → pc % 2 ≡ 0 → imm % 2 ≡ 0 → next % 2 ≡ 0 → (if b then (pc + imm) % 2 ^ 32 else next) % 2 ≡ 0
+branch_even : (b : Bool) (pc imm next : ℕ) → pc % 2 ≡ 0 → imm % 2 ≡ 0 → next % 2 ≡ 0
+    → (if b then (pc + imm) % 2 ^ 32 else next) % 2 ≡ 0
 branch_even true pc imm next p q r = omega (arith, p, q)
 branch_even false pc imm next p q r = r
 
@@ -191,15 +292,21 @@ branch_low : (b : Bool) (pc imm next : ℕ) → next < 2 ^ 32 → (if b then (pc
 branch_low true pc imm next r = mod_below (pc + imm) (2 ^ 32) (omega arith)
 branch_low false pc imm next r = r
 
-branch_view : (m : Case) (word rd value next : ℕ) (insn : Insn) → (view_of (plain_step m word insn rd value next).event).ops ≡ operands (now m) insn
+-- its view has the operands of the state, where timing isn't fixed
+branch_view : (m : Case) (word rd value next : ℕ) (insn : Insn)
+    → (view_of (plain_step m word insn rd value next).event).ops ≡ operands (now m) insn
 unfolding view_of
 branch_view m word rd value next insn = refl
 
-free_operands : (m : Case) (insn : Insn) → operands (now m) insn ≡ (if bit_and m.h.state.csrs.cpuctrl 2 == 0 then Some (reg m.h.state (source1 insn), reg m.h.state (source2 insn)) else None)
+free_operands : (m : Case) (insn : Insn)
+    → operands (now m) insn ≡ (if bit_and m.h.state.csrs.cpuctrl 2 == 0
+    then Some (reg m.h.state (source1 insn), reg m.h.state (source2 insn)) else None)
 unfolding operands counters_after
 free_operands m insn = refl
 
-pub branch_ends : (m : Case) (word len lines rs1 rs2 imm : ℕ) (op : BranchOp) → RowEnds m word len lines (Branch op rs1 rs2 imm)
+-- so a branch ends as its step
+pub branch_ends : (m : Case) (word len lines rs1 rs2 imm : ℕ) (op : BranchOp)
+    → RowEnds m word len lines (Branch op rs1 rs2 imm)
 unfolding execute finished retired_by retired_item
 branch_ends m word len lines rs1 rs2 imm op k t hd =
     let a : ℕ = reg m.h.state rs1 in
@@ -211,23 +318,36 @@ branch_ends m word len lines rs1 rs2 imm op k t hd =
     let csrs : CsrValues = csr_tick (now m).csrs true None in
     let ops = ops_of m word len 0 0 next insn hd in
     let item : m.i ≡ branching (is_turned (is_fixed m.h.times.ctl) op v.ops) (plain (parcels_of word)) =
-    t.item ∙ row_item (settings_of m.s) m.h.times.ctl v word insn (retire_kind m word insn m.h.state.memory csrs 0 0 None None next) (retire_word m word insn m.h.state.memory csrs 0 0 None None next) hd.insn_is in
-    let item2 : m.i ≡ branching (is_turned (is_fixed m.h.times.ctl) op (if bit_and m.h.state.csrs.cpuctrl 2 == 0 then Some (a, b) else None)) (plain (parcels_of word)) =
-    item ∙ ap (λ o. branching (is_turned (is_fixed m.h.times.ctl) op o) (plain (parcels_of word))) (branch_view m word 0 0 next insn ∙ free_operands m insn) in
-    let fixed : is_fixed m.h.times.ctl ≡ not (bit_and m.h.state.csrs.cpuctrl 2 == 0) = ap (λ (y : Ctl). is_fixed y) k.ctl in
+    t.item ∙ row_item (settings_of m.s) m.h.times.ctl v word insn
+    (retire_kind m word insn m.h.state.memory csrs 0 0 None None next)
+    (retire_word m word insn m.h.state.memory csrs 0 0 None None next) hd.insn_is in
+    let item2 : m.i ≡ branching (is_turned (is_fixed m.h.times.ctl) op
+    (if bit_and m.h.state.csrs.cpuctrl 2 == 0 then Some (a, b) else None)) (plain (parcels_of word)) =
+    item ∙ ap (λ o. branching (is_turned (is_fixed m.h.times.ctl) op o) (plain (parcels_of word)))
+    (branch_view m word 0 0 next insn ∙ free_operands m insn) in
+    let fixed : is_fixed m.h.times.ctl ≡ not (bit_and m.h.state.csrs.cpuctrl 2 == 0) =
+    ap (λ (y : Ctl). is_fixed y) k.ctl in
     plain_ends m word len 0 0 next insn (branch_row op rs1 rs2 imm) k t hd
-    (ap (λ x. retires m.core m.g m.i.redirects 0 0 None (if branch_of op m.g.a m.g.b then (m.core.id.pc + imm) % 2 ^ 32 else x) (ticked m.core)) (next_is m word len k hd.word_is hd.len_is)
-    ∙ ap (λ pc. retires m.core m.g m.i.redirects 0 0 None (if branch_of op m.g.a m.g.b then (pc + imm) % 2 ^ 32 else link) (ticked m.core)) k.pc
-    ∙ ap₂ (λ x y. retires m.core m.g m.i.redirects 0 0 None (if branch_of op x y then (m.h.state.pc + imm) % 2 ^ 32 else link) (ticked m.core)) ops.0 ops.1)
+    (ap (λ x. retires m.core m.g m.i.redirects 0 0 None
+    (if branch_of op m.g.a m.g.b then (m.core.id.pc + imm) % 2 ^ 32 else x) (ticked m.core))
+    (next_is m word len k hd.word_is hd.len_is)
+    ∙ ap (λ pc. retires m.core m.g m.i.redirects 0 0 None
+    (if branch_of op m.g.a m.g.b then (pc + imm) % 2 ^ 32 else link) (ticked m.core)) k.pc
+    ∙ ap₂ (λ x y. retires m.core m.g m.i.redirects 0 0 None
+    (if branch_of op x y then (m.h.state.pc + imm) % 2 ^ 32 else link) (ticked m.core)) ops.0 ops.1)
     (λ q. ap (λ z. if z then (m.h.state.pc + imm) % 2 ^ 32 else link)
-    (turned_item (is_fixed m.h.times.ctl) op a b (parcels_of word) (bit_and m.h.state.csrs.cpuctrl 2 == 0) fixed (sym (ap (λ (j : Item). j.redirects) item2) ∙ q)))
+    (turned_item (is_fixed m.h.times.ctl) op a b (parcels_of word) (bit_and m.h.state.csrs.cpuctrl 2 == 0) fixed
+    (sym (ap (λ (j : Item). j.redirects) item2) ∙ q)))
     (omega arith)
-    (branch_even (branch_of op a b) m.h.state.pc imm link k.good.pc_even hd.well.3 (next_even m.h.state.pc len word hd.len_is k.good.pc_even))
+    (branch_even (branch_of op a b) m.h.state.pc imm link k.good.pc_even hd.well.3
+    (next_even m.h.state.pc len word hd.len_is k.good.pc_even))
     (branch_low (branch_of op a b) m.h.state.pc imm link (mod_below (m.h.state.pc + len) (2 ^ 32) (omega arith)))
 
 -- ---- calls and waits
 
-call_cause : (b : Bool) → (((if b then 11 else 8) == 5 || (if b then 11 else 8) == 7) ≡ false) × (((if b then 11 else 8) == 1) ≡ false) × (((if b then 11 else 8) == 2) ≡ false)
+-- a call's cause has no address and no value
+call_cause : (b : Bool) → (((if b then 11 else 8) == 5 || (if b then 11 else 8) == 7) ≡ false)
+    × (((if b then 11 else 8) == 1) ≡ false) × (((if b then 11 else 8) == 2) ≡ false)
 call_cause true = (refl, refl, refl)
 call_cause false = (refl, refl, refl)
 
@@ -237,6 +357,7 @@ call_tval x cause e k = rw (e, k) refl
 call_word : (cause word stage : ℕ) → (cause == 1) ≡ false → stage ≡ word → (if cause == 1 then 0 else stage) ≡ word
 call_word cause word stage e k = rw e k
 
+-- ECALL has its mode's cause
 call_is : (m : Case) → Known m → cause_of m.core.csrs 0 (Some Ecall) ≡ Some (if (now m).csrs.machine then 11 else 8)
 unfolding cause_of values
 call_is m k = ap (λ (w : CsrValues). Some (call_of w.machine)) k.csrs
@@ -244,28 +365,35 @@ call_is m k = ap (λ (w : CsrValues). Some (call_of w.machine)) k.csrs
     call_of : Bool → ℕ
     call_of b = if b then 11 else 8
 
+-- so ECALL ends as its step
 pub ecall_ends : (m : Case) (word len lines : ℕ) → RowEnds m word len lines Ecall
 unfolding execute finished
 ecall_ends m word len lines k t hd =
     let b : Bool = (now m).csrs.machine in
     let cause : ℕ = if b then 11 else 8 in
-    cause_ends m word cause 0 (operands (now m) Ecall) k t (call_cause b).0 (hd.cause ∙ call_is m k) (call_tval m.core cause (call_cause b).1 (call_cause b).2) (omega arith)
+    cause_ends m word cause 0 (operands (now m) Ecall) k t (call_cause b).0 (hd.cause ∙ call_is m k)
+    (call_tval m.core cause (call_cause b).1 (call_cause b).2) (omega arith)
     (call_word cause word (stage_word m.core.id) (call_cause b).1 hd.fetched)
 
+-- EBREAK has cause 3, and ends as its step
 break_is : (m : Case) → cause_of m.core.csrs 0 (Some Ebreak) ≡ Some 3
 unfolding cause_of
 break_is m = refl
 
 pub ebreak_ends : (m : Case) (word len lines : ℕ) → RowEnds m word len lines Ebreak
 unfolding execute finished
-ebreak_ends m word len lines k t hd = cause_ends m word 3 0 (operands (now m) Ebreak) k t refl (hd.cause ∙ break_is m) refl (omega arith) hd.fetched
+ebreak_ends m word len lines k t hd =
+    cause_ends m word 3 0 (operands (now m) Ebreak) k t refl (hd.cause ∙ break_is m) refl (omega arith) hd.fetched
 
 -- an instruction that is illegal
-pub illegal_ends : (m : Case) (word : ℕ) (ops : Option (ℕ × ℕ)) → Known m → Meets m (finished (now m).pc (now m).regs m.c word ops (illegal (now m) word)) → m.g.cause ≡ Some 2 → stage_word m.core.id ≡ word → word < 2 ^ 32
+pub illegal_ends : (m : Case) (word : ℕ) (ops : Option (ℕ × ℕ)) → Known m
+    → Meets m (finished (now m).pc (now m).regs m.c word ops (illegal (now m) word)) → m.g.cause ≡ Some 2
+    → stage_word m.core.id ≡ word → word < 2 ^ 32
     → Ended m (effect_now m) (finished (now m).pc (now m).regs m.c word ops (illegal (now m) word))
 unfolding finished
 illegal_ends m word ops k t ec ew l = cause_ends m word 2 word ops k t refl ec ew l ew
 
+-- a WFI that isn't allowed is illegal
 wait_cause : (m : Case) → Known m → may_wait (now m).csrs ≡ false → cause_of m.core.csrs 0 (Some Wfi) ≡ Some 2
 unfolding cause_of values
 wait_cause m k e = ap (λ (w : CsrValues). wait_of (w.machine || bit_and w.mstatus 0x200000 == 0)) k.csrs ∙ ap wait_of e
@@ -273,14 +401,18 @@ wait_cause m k e = ap (λ (w : CsrValues). wait_of (w.machine || bit_and w.mstat
     wait_of : Bool → Option ℕ
     wait_of b = if b then None else Some 2
 
+-- the step of WFI, by whether it is allowed
 abbrev wait_step : Case → ℕ → ℕ → Bool → Stepped
-wait_step m word len b = finished (now m).pc (now m).regs m.c word (operands (now m) Wfi) (if b then plain_exec (now m) 0 0 ((m.h.state.pc + len) % 2 ^ 32) else illegal (now m) word)
+wait_step m word len b = finished (now m).pc (now m).regs m.c word (operands (now m) Wfi)
+    (if b then plain_exec (now m) 0 0 ((m.h.state.pc + len) % 2 ^ 32) else illegal (now m) word)
 
-wait_by : (m : Case) (word len : ℕ) (b : Bool) → may_wait (now m).csrs ≡ b → Known m → Meets m (wait_step m word len b) → Holds m word len Wfi (view_of (wait_step m word len b).event)
-    → Ended m (effect_now m) (wait_step m word len b)
+-- it ends as this step
+wait_by : (m : Case) (word len : ℕ) (b : Bool) → may_wait (now m).csrs ≡ b → Known m → Meets m (wait_step m word len b)
+    → Holds m word len Wfi (view_of (wait_step m word len b).event) → Ended m (effect_now m) (wait_step m word len b)
 unfolding finished retired_by
 wait_by m word len true e k t hd = follow_ends m word len 0 0 0 Wfi wfi_row k t hd refl refl (omega arith)
-wait_by m word len false e k t hd = illegal_ends m word (operands (now m) Wfi) k t (hd.cause ∙ wait_cause m k e) hd.fetched hd.word_low
+wait_by m word len false e k t hd =
+    illegal_ends m word (operands (now m) Wfi) k t (hd.cause ∙ wait_cause m k e) hd.fetched hd.word_low
 
 pub wfi_ends : (m : Case) (word len lines : ℕ) → RowEnds m word len lines Wfi
 unfolding execute

@@ -1,5 +1,6 @@
 -- The registers that the stage reads are codewords, and no complement is wrong.
-use Rattle.std.proofs.Common.{◌≡◌, ℕ, ◌^◌, ◌<◌, Bool, true, false, List, map, length, slice_index, All, ap, ◌∙◌, arith, Option, Some, None}
+use Rattle.std.proofs.Common.{◌≡◌, ℕ, ◌^◌, ◌<◌, Bool, true, false, List, map, length, slice_index, All, ap, ◌∙◌, arith}
+use Rattle.std.proofs.Common.{Option, Some, None}
 use Rattle.std.specs.Prelude.{IfSome, if◌then◌else◌, ◌&&◌, nat_lt, ◌==◌}
 use Rattle.std.proofs.lemmas.List.{get_or-map}
 use Rattle.std.proofs.lemmas.List.Elements.{All-get_or}
@@ -19,13 +20,16 @@ use Rattle.ibx_tying.proofs.Accesses.{IsNamed, named}
 
 -- ---- the registers that are read
 
+-- the stage's row has such sources, or there is none
 named_if : (b : Bool) (o : Option Insn) → IfSome o IsNamed → IfSome (if b then o else None) IsNamed
 named_if true o n = n
 named_if false o n = tt
 
 pub named_row : (id : IdState) → IfSome (row_of id) IsNamed
-named_row id = named_if (id.valid && nat_lt id.kind 2 && id.fault == 0) (instruction_of (stage_word id)) (named (stage_word id))
+named_row id =
+    named_if (id.valid && nat_lt id.kind 2 && id.fault == 0) (instruction_of (stage_word id)) (named (stage_word id))
 
+-- so it reads registers below 32
 pub read1_low : (b : Bool) (o : Option Insn) → IfSome o IsNamed → read_by source1 b o < 32
 read1_low true None n = omega arith
 read1_low true (Some insn) n = n.1
@@ -40,20 +44,27 @@ read2_low false (Some insn) n = omega arith
 
 -- ---- the codeword of a register
 
-coded : (xs : List ℕ) (n : ℕ) → n < length xs → All (λ v. v < 2 ^ 32) xs → syndrome_of 32 7 (slice_index (map (encode_of 32 7) xs) n) ≡ 0
+-- a register is held as a codeword
+coded : (xs : List ℕ) (n : ℕ) → n < length xs → All (λ v. v < 2 ^ 32) xs
+    → syndrome_of 32 7 (slice_index (map (encode_of 32 7) xs) n) ≡ 0
 coded xs n l a =
     ap (syndrome_of 32 7) (get_or-map (encode_of 32 7) xs n 0 0 l)
     ∙ syndrome_of-encode 32 7 (slice_index xs n) (All-get_or (λ v. v < 2 ^ 32) xs n 0 l a)
 
-coded_in : (regs xs : List ℕ) (n : ℕ) → regs ≡ map (encode_of 32 7) xs → n < 32 → length xs ≡ 32 → All (λ v. v < 2 ^ 32) xs → syndrome_of 32 7 (slice_index regs n) ≡ 0
+coded_in : (regs xs : List ℕ) (n : ℕ) → regs ≡ map (encode_of 32 7) xs → n < 32 → length xs ≡ 32
+    → All (λ v. v < 2 ^ 32) xs → syndrome_of 32 7 (slice_index regs n) ≡ 0
 coded_in regs xs n e l k a = ap (λ rs. syndrome_of 32 7 (slice_index rs n)) e ∙ coded xs n (omega (arith, k)) a
 
+-- complements that are right raise no alert
 no_glitch : (c : Csrs) → Complemented c → glitch_of c ≡ false
 no_glitch c k = (glitch-sound c).1 k
 
+-- so neither register that is read has a flipped bit
 pub arch_quiet : (s : Setup) → ArchQuiet s
 arch_quiet s h c next_pc id csrs regs t i = (
-  coded_in regs h.state.regs (ra_of id) t.regs_are (read1_low (nat_lt id.phase 4) (row_of id) (named_row id)) i.regs_count i.regs_low,
-  coded_in regs h.state.regs (rb_of id) t.regs_are (read2_low (nat_lt id.phase 4) (row_of id) (named_row id)) i.regs_count i.regs_low,
+  coded_in regs h.state.regs (ra_of id) t.regs_are (read1_low (nat_lt id.phase 4) (row_of id) (named_row id))
+      i.regs_count i.regs_low,
+  coded_in regs h.state.regs (rb_of id) t.regs_are (read2_low (nat_lt id.phase 4) (row_of id) (named_row id))
+      i.regs_count i.regs_low,
   no_glitch csrs t.complemented,
 )

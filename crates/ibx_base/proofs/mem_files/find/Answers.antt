@@ -4,4 +4,5 @@ use Rattle.ibx_base.proofs.Found.{finds}
 use Rattle.ibx_base.proofs.mem_files.find.Goals as goal
 
 pub returns : goal.returns
-returns c = subst (Finds c.args.files.now c.args.name.now) (sym c.position_of.ensures) (finds c.args.files.now c.args.name.now)
+returns c =
+    subst (Finds c.args.files.now c.args.name.now) (sym c.position_of.ensures) (finds c.args.files.now c.args.name.now)

@@ -9,7 +9,9 @@ loop-done-preserved g c = record {
   within = omega (arith, length-drop {A = ℕ}, c.in_ok-done.ensures.within, c.loop-done-test.true);
   taken =
       c.in_ok-done.ensures.bytes
-      ∙ ap (λ (t : Option (List ℕ)). with_more t (take c.in_ok-done.field-0 (take (length c.args.piece.now - c.loop-done.done) (drop c.loop-done.done c.args.piece.now)))) c.loop-done.invariant.taken
+      ∙ ap (λ (t : Option (List ℕ)). with_more t
+      (take c.in_ok-done.field-0 (take (length c.args.piece.now - c.loop-done.done)
+      (drop c.loop-done.done c.args.piece.now)))) c.loop-done.invariant.taken
       ∙ with_more-take (g.K.Sink.taken c.args.sink.now) c.args.piece.now c.loop-done.done c.in_ok-done.field-0;
   faults = omega (arith, c.loop-done.invariant.faults, c.write.ensures.cause.never_falls);
 }

@@ -7,4 +7,6 @@ pub returns : goal.returns
 unfolding gather_of
 returns c =
     c.extend.ensures
-    ∙ ap (loaded c.args.op) (c.lowest.ensures.value ∙ rw c.access_size.ensures.value (gathered c.args.first c.args.second c.args.addr (size_of c.args.op) c.ranges.first.fits))
+    ∙ ap (loaded c.args.op) (c.lowest.ensures.value
+    ∙ rw c.access_size.ensures.value (gathered c.args.first c.args.second c.args.addr (size_of c.args.op)
+    c.ranges.first.fits))

@@ -11,14 +11,17 @@ loop-number-init c = refl
 pub returns-then-asked-number-eq1 : goal.returns-then-asked-number-eq1
 returns-then-asked-number-eq1 c =
     let step = find-drop (λ n. bit_of c.args.asked n) order c.loop-number.number-index (omega arith) in
-    let hit : bit_of c.args.asked (get_or order c.loop-number.number-index 0) ≡ true = eq-eqb _ _ c.if-asked-number-eq1.true in
+    let hit : bit_of c.args.asked (get_or order c.loop-number.number-index 0) ≡ true =
+    eq-eqb _ _ c.if-asked-number-eq1.true in
     sym (c.loop-number.invariant ∙ step ∙ rw hit refl)
 
 pub loop-number-preserved : goal.loop-number-preserved
 loop-number-preserved c =
     let step = find-drop (λ n. bit_of c.args.asked n) order c.loop-number.number-index (omega arith) in
-    let miss : bit_of c.args.asked (get_or order c.loop-number.number-index 0) ≡ false = ne_eqb _ _ c.if-asked-number-eq1.false in
+    let miss : bit_of c.args.asked (get_or order c.loop-number.number-index 0) ≡ false =
+    ne_eqb _ _ c.if-asked-number-eq1.false in
     c.loop-number.invariant ∙ step ∙ rw miss refl
 
 pub returns : goal.returns
-returns c = sym (c.loop-number.invariant ∙ find-end (λ n. bit_of c.args.asked n) order c.loop-number.number-index (omega arith))
+returns c = sym (c.loop-number.invariant
+    ∙ find-end (λ n. bit_of c.args.asked n) order c.loop-number.number-index (omega arith))

@@ -9,7 +9,8 @@ use Rattle.ibx_icache.proofs.port.WordPort.answer.Goals as goal
 
 pub returns-clause-hit : goal.returns-clause-hit
 returns-clause-hit c = λ e.
-    subst (λ (a : WordAns). Decides a.valid ((way : Bool) × IsHit (look_of c.args.i.now.tags c.args.i.now.lanes) c.args.self.now.c_addr way))
+    subst (λ (a : WordAns). Decides a.valid
+    ((way : Bool) × IsHit (look_of c.args.i.now.tags c.args.i.now.lanes) c.args.self.now.c_addr way))
     (sym (c.answered.ensures ∙ ap (λ (l : Look). answer_of c.args.self.now c.args.i.now.rsp l) c.of.ensures.words))
     (hit_answers c.args.self.now c.args.i.now.rsp (look_of c.args.i.now.tags c.args.i.now.lanes) e)
 
@@ -20,4 +21,5 @@ returns-clause-word c = λ e way h.
 
 pub returns-clause-last : goal.returns-clause-last
 returns-clause-last c = λ e.
-    subst (λ (a : WordAns). IsGiven a (half_at c.args.self.now (c.args.self.now.c_addr / 4 % 2))) (sym c.answered.ensures) (last_answer c.args.self.now c.args.i.now.rsp c.of.result e)
+    subst (λ (a : WordAns). IsGiven a (half_at c.args.self.now (c.args.self.now.c_addr / 4 % 2)))
+    (sym c.answered.ensures) (last_answer c.args.self.now c.args.i.now.rsp c.of.result e)
