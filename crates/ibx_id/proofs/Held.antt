@@ -1,8 +1,10 @@
 -- What a turn holds is within the widths where the state is.
-use Rattle.std.proofs.Common.{◌≡◌, ℕ, ◌+◌, ◌<◌, ◌^◌, Bool, true, false, if◌then◌else◌, nat_lt, nat_le, ◌==◌, ◌||◌, Option, Some, None, sym, ◌∙◌, subst, arith}
+use Rattle.std.proofs.Common.{◌≡◌, ℕ, ◌+◌, ◌<◌, ◌^◌, Bool, true, false, if◌then◌else◌, nat_lt, nat_le, ◌==◌, ◌||◌}
+use Rattle.std.proofs.Common.{Option, Some, None, sym, ◌∙◌, subst, arith}
 use Rattle.std.proofs.lemmas.Bool.Decides.{nat_tests}
 use Rattle.ibx_isa.specs.declared.insn.Insn.{Insn}
-use Rattle.ibx_isa.specs.declared.insn.Insn.TheVariants.{Lui, Auipc, Jal, Jalr, Branch, Load, Store, AluImm, Alu, MulDiv, Csr, Fence, FenceI, Ecall, Ebreak, Mret, Wfi}
+use Rattle.ibx_isa.specs.declared.insn.Insn.TheVariants.{Lui, Auipc, Jal, Jalr, Branch, Load, Store, AluImm, Alu}
+use Rattle.ibx_isa.specs.declared.insn.Insn.TheVariants.{MulDiv, Csr, Fence, FenceI, Ecall, Ebreak, Mret, Wfi}
 use Rattle.ibx_isa.specs.Alu.{branch_of}
 use Rattle.ibx_id.specs.declared.stage.IdState.{IdState}
 use Rattle.ibx_id.specs.declared.stage.IdIn.{IdIn}
@@ -14,23 +16,30 @@ use Rattle.ibx_id.specs.Turns.{IsWithinWidths, held, ends_at, branches, worked, 
 abbrev Keeps : IdState → Turn → Type 0
 Keeps st turn = (next : IdState) → turn ≡ Hold next → IsWithinWidths st → IsWithinWidths next
 
+-- the count stops at 63, in its six bits
 count_fits : (n : ℕ) → (if nat_lt n 63 then n + 1 else 63) < 2 ^ 6
 count_fits n = grind (arith, nat_tests)
 
+-- a state that is held on keeps the widths, also as a turn
 pub held_fits : (st : IdState) (phase : ℕ) → phase < 2 ^ 3 → IsWithinWidths st → IsWithinWidths (held phase st)
-held_fits st phase h w = record { kind = w.kind; pc = w.pc; word = w.word; fault = w.fault; phase = h; count = count_fits st.count }
+held_fits st phase h w =
+    record { kind = w.kind; pc = w.pc; word = w.word; fault = w.fault; phase = h; count = count_fits st.count }
 
 holds : (st : IdState) (phase : ℕ) → phase < 2 ^ 3 → Keeps st (Hold (held phase st))
 holds st phase h next e w =
     let same : held phase st ≡ next = cc in
     subst IsWithinWidths same (held_fits st phase h w)
 
+-- whichever of two turns a test chooses
 either : (st : IdState) (b : Bool) (x y : Turn) → Keeps st x → Keeps st y → Keeps st (if b then x else y)
 either st true x y kx ky = kx
 either st false x y kx ky = ky
 
+-- each kind of turn holds a state within the widths, or none: an item that ends at its cost, an access, a branch, an
+-- instruction, and a real item
 ends : (st : IdState) (cost : ℕ) (redirect : Bool) → Keeps st (ends_at cost redirect st)
-ends st cost redirect = either st (nat_le cost st.count) (Retire redirect) (Hold (held 1 st)) (λ next e w. cc) (holds st 1 (omega arith))
+ends st cost redirect =
+    either st (nat_le cost st.count) (Retire redirect) (Hold (held 1 st)) (λ next e w. cc) (holds st 1 (omega arith))
 
 awaits : (st : IdState) (done : Bool) → Keeps st (if done then Retire false else Hold (held 1 st))
 awaits st done = either st done (Retire false) (Hold (held 1 st)) (λ next e w. cc) (holds st 1 (omega arith))
@@ -71,5 +80,7 @@ reals st i =
     (either st (is_some_cause i.trap) (Hold (held 4 st)) (worked i.insn st i) (holds st 4 (omega arith))
     (works i.insn st i))))))
 
-pub real_fits : (st : IdState) (i : IdIn) (turn : Turn) (next : IdState) → turn ≡ real_turn st i → turn ≡ Hold next → IsWithinWidths st → IsWithinWidths next
+-- so the state after a real item's turn is within the widths
+pub real_fits : (st : IdState) (i : IdIn) (turn : Turn) (next : IdState) → turn ≡ real_turn st i → turn ≡ Hold next
+    → IsWithinWidths st → IsWithinWidths next
 real_fits st i turn next is e w = reals st i next (sym is ∙ e) w

@@ -1,7 +1,8 @@
 -- A stay in the stage: from the cycle in which an item enters to the one in which it is done. Our own rule.
 use Rattle.std.specs.Prelude.{◌≡◌, ℕ, zero, suc, ◌+◌, ◌<◌, ◌≤◌, min, Bool, true, false, ◌||◌, Option, Some, None}
 use Rattle.ibx_isa.specs.declared.insn.Insn.{Insn}
-use Rattle.ibx_isa.specs.declared.insn.Insn.TheVariants.{Lui, Auipc, Jal, Jalr, Branch, Load, Store, AluImm, Alu, MulDiv, Csr, Fence, FenceI, Ecall, Ebreak, Mret, Wfi}
+use Rattle.ibx_isa.specs.declared.insn.Insn.TheVariants.{Lui, Auipc, Jal, Jalr, Branch, Load, Store, AluImm, Alu}
+use Rattle.ibx_isa.specs.declared.insn.Insn.TheVariants.{MulDiv, Csr, Fence, FenceI, Ecall, Ebreak, Mret, Wfi}
 use Rattle.ibx_isa.specs.Alu.{branch_of}
 use Rattle.ibx_id.specs.declared.stage.IdState.{IdState}
 use Rattle.ibx_id.specs.declared.stage.IdIn.{IdIn}
@@ -57,8 +58,8 @@ pub record IsTrapped (st : IdState) (i : IdIn) (wires : Wires) (n phase portion 
   pub found : turn_in st i wires n ≡ Hold (after st phase (n + 1))
   pub done : turn_in st i wires (n + 1) ≡ Trap portion
 
--- What the table of costs gives an instruction: the cycles beyond the first with whether it redirects, the answer of the access's
--- last part, or the first cycle that wakes. What always traps isn't in it.
+-- What the table of costs gives an instruction: the cycles beyond the first with whether it redirects, the answer of
+-- the access's last part, or the first cycle that wakes. What always traps isn't in it.
 pub data Cost : Type 0 where
   Takes : (cycles : ℕ) → (redirects : Bool) → Cost
   ToAnswer : Cost
@@ -104,23 +105,28 @@ IsSound wires n = (k : ℕ) → k < n → wires.failed k ≡ 0
 abbrev pub IsLow : (ℕ → Bool) → ℕ → Type 0
 IsLow test n = (k : ℕ) → k < n → test k ≡ false
 
--- An instruction without a trap of its own retires as the table says: after the cycles that it gives, or in the first cycle in
--- which its answer or its wake is there, and it waits until then.
+-- An instruction without a trap of its own retires as the table says: after the cycles that it gives, or in the first
+-- cycle in which its answer or its wake is there, and it waits until then.
 pub record KeepsRow (st : IdState) (i : IdIn) (wires : Wires) : Type 0 where
-  pub takes : (cycles : ℕ) (redirects : Bool) → cost_of i.insn i ≡ Takes cycles redirects → cycles < 64 → IsSound wires (cycles + 1) → IsDone st i wires cycles (Retire redirects)
+  pub takes : (cycles : ℕ) (redirects : Bool) → cost_of i.insn i ≡ Takes cycles redirects → cycles < 64
+      → IsSound wires (cycles + 1) → IsDone st i wires cycles (Retire redirects)
   pub awaits : (n : ℕ) → cost_of i.insn i ≡ ToAnswer → IsSound wires n → IsLow wires.answered n → IsThere st i wires n
-  pub answered : (n : ℕ) → cost_of i.insn i ≡ ToAnswer → IsSound wires (n + 1) → IsLow wires.answered n → wires.answered n ≡ true → IsDone st i wires n (Retire false)
+  pub answered : (n : ℕ) → cost_of i.insn i ≡ ToAnswer → IsSound wires (n + 1) → IsLow wires.answered n
+      → wires.answered n ≡ true → IsDone st i wires n (Retire false)
   pub sleeps : (n : ℕ) → cost_of i.insn i ≡ ToWake → IsSound wires n → IsLow wires.wake n → IsThere st i wires n
-  pub woken : (n : ℕ) → cost_of i.insn i ≡ ToWake → IsSound wires (n + 1) → IsLow wires.wake n → wires.wake n ≡ true → IsDone st i wires n (Retire false)
+  pub woken : (n : ℕ) → cost_of i.insn i ≡ ToWake → IsSound wires (n + 1) → IsLow wires.wake n → wires.wake n ≡ true
+      → IsDone st i wires n (Retire false)
 
--- A real item. A cause that the item brings is found as it enters, and a failed portion in any cycle in which it is still there.
+-- A real item. A cause that the item brings is found as it enters, and a failed portion in any cycle in which it is
+-- still there.
 pub record KeepsReal (st : IdState) (i : IdIn) (wires : Wires) : Type 0 where
   pub row : i.trap ≡ None → IsCosted i.insn i.cost → KeepsRow st i wires
   pub trapped : (cause : ℕ) → i.trap ≡ Some cause → wires.failed 0 ≡ 0 → IsTrapped st i wires 0 4 0
   pub first : (n : ℕ) → IsThere st i wires n → wires.failed n ≡ 1 → IsTrapped st i wires n 2 1
   pub second : (n : ℕ) → IsThere st i wires n → wires.failed n ≡ 2 → IsTrapped st i wires n 3 2
 
--- An item that enters is done when the table of costs says. Costs are below 64, since the stage counts no further than 63.
+-- An item that enters is done when the table of costs says. Costs are below 64, since the stage counts no further than
+-- 63.
 pub record KeepsCosts (st : IdState) (i : IdIn) (wires : Wires) : Type 0 where
   pub real : st.kind ≡ 0 → KeepsReal st i wires
   pub dummy : st.kind ≡ 1 → i.cost < 64 → IsDone st i wires i.cost Dummy

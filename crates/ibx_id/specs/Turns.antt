@@ -1,5 +1,6 @@
 -- What the stage does in a cycle. Our own rule.
-use Rattle.std.specs.Prelude.{ℕ, ◌+◌, ◌^◌, ◌<◌, Bool, true, false, not, ◌||◌, ◌==◌, nat_le, nat_lt, if◌then◌else◌, Option, Some, None}
+use Rattle.std.specs.Prelude.{ℕ, ◌+◌, ◌^◌, ◌<◌, Bool, true, false, not, ◌||◌, ◌==◌, nat_le, nat_lt, if◌then◌else◌}
+use Rattle.std.specs.Prelude.{Option, Some, None}
 use Rattle.ibx_isa.specs.declared.insn.Insn.{Insn}
 use Rattle.ibx_isa.specs.declared.insn.Insn.TheVariants.{Jal, Jalr, Branch, Load, Store, FenceI, Mret, Wfi}
 use Rattle.ibx_isa.specs.Alu.{branch_of}
@@ -67,5 +68,5 @@ unfoldable pub turn_of : IdState → IdIn → Turn
 turn_of st i =
     if not st.valid then Idle else
     if nat_le 2 st.kind then Irq else
-    if st.kind == 1 then (if nat_le i.cost st.count then Dummy else Hold (held 1 st)) else
+    if st.kind == 1 then (if nat_le i.cost st.count || nat_le 2 st.phase then Dummy else Hold (held 1 st)) else
     real_turn st i

@@ -22,7 +22,7 @@ pub fn turn(st: &IdState, i: &IdIn) -> Turn
     }
     match st.kind {
         0 => real(st, i),
-        1 if i.cost <= st.count => Turn::Dummy,
+        1 if i.cost <= st.count || st.phase >= 2 => Turn::Dummy,
         1 => Turn::Hold(hold(st, 1)),
         _ => Turn::Irq,
     }

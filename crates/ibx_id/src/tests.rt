@@ -82,10 +82,11 @@ fn last(entered: IdState, given: &[IdIn]) -> (usize, Turn) {
 #[test]
 fn costs_of_rows(rt: HostRuntime) {
     let rows = [
-        (Insn::Lui { rd: 1, imm: 0 }, 0, false),
-        (Insn::Auipc { rd: 1, imm: 0 }, 0, false),
-        (Insn::Jal { rd: 1, imm: 8 }, 0, true),
+        ("lui", Insn::Lui { rd: 1, imm: 0 }, 0, false),
+        ("auipc", Insn::Auipc { rd: 1, imm: 0 }, 0, false),
+        ("jal", Insn::Jal { rd: 1, imm: 8 }, 0, true),
         (
+            "jalr",
             Insn::Jalr {
                 rd: 1,
                 rs1: 2,
@@ -95,6 +96,7 @@ fn costs_of_rows(rt: HostRuntime) {
             true,
         ),
         (
+            "addi",
             Insn::AluImm {
                 op: AluOp::Add,
                 rd: 1,
@@ -105,6 +107,7 @@ fn costs_of_rows(rt: HostRuntime) {
             false,
         ),
         (
+            "add",
             Insn::Alu {
                 op: AluOp::Add,
                 rd: 1,
@@ -115,6 +118,7 @@ fn costs_of_rows(rt: HostRuntime) {
             false,
         ),
         (
+            "csrrs",
             Insn::Csr {
                 op: CsrOp::Set,
                 rd: 1,
@@ -125,14 +129,15 @@ fn costs_of_rows(rt: HostRuntime) {
             0,
             false,
         ),
-        (Insn::Fence, 0, false),
-        (Insn::FenceI, 0, true),
-        (Insn::Mret, 1, true),
+        ("fence", Insn::Fence, 0, false),
+        ("fence.i", Insn::FenceI, 0, true),
+        ("mret", Insn::Mret, 1, true),
     ];
-    for (insn, cycles, redirect) in rows {
+    for (name, insn, cycles, redirect) in rows {
         assert_eq!(rt;
             stay(item(0), &row(insn)),
-            (cycles, Turn::Retire { redirect })
+            (cycles, Turn::Retire { redirect }),
+            "at {name}"
         );
     }
 }
@@ -141,15 +146,19 @@ fn costs_of_rows(rt: HostRuntime) {
 #[test]
 fn costs_of_branches(rt: HostRuntime) {
     let rows = [
-        (beq(), false, 1),
-        (bne(), false, 0),
-        (bne(), true, 1),
-        (beq(), true, 1),
+        ("a taken branch", beq(), false, 1),
+        ("one that isn't taken", bne(), false, 0),
+        ("one that isn't taken, with fixed timing", bne(), true, 1),
+        ("a taken branch with fixed timing", beq(), true, 1),
     ];
-    for (insn, fixed, cycles) in rows {
+    for (name, insn, fixed, cycles) in rows {
         let i = IdIn { fixed, ..row(insn) };
         let redirect = cycles == 1;
-        assert_eq!(rt; stay(item(0), &i), (cycles, Turn::Retire { redirect }));
+        assert_eq!(rt;
+            stay(item(0), &i),
+            (cycles, Turn::Retire { redirect }),
+            "at {name}"
+        );
     }
 }
 
@@ -157,18 +166,39 @@ fn costs_of_branches(rt: HostRuntime) {
 #[test]
 fn costs_of_operations(rt: HostRuntime) {
     let rows = [
-        (MdOp::Div, 7, false, MulKind::Fast, 37),
-        (MdOp::Div, 0, false, MulKind::Fast, 1),
-        (MdOp::Div, 0, true, MulKind::Fast, 37),
-        (MdOp::Remu, 0, false, MulKind::Slow, 1),
-        (MdOp::Mul, 7, false, MulKind::Single, 0),
-        (MdOp::Mul, 7, false, MulKind::Fast, 2),
-        (MdOp::Mul, 7, false, MulKind::Slow, 3),
-        (MdOp::Mul, 7, true, MulKind::Slow, 32),
-        (MdOp::Mulh, 7, false, MulKind::Single, 1),
-        (MdOp::Mulhu, 7, false, MulKind::Slow, 32),
+        ("div", MdOp::Div, 7, false, MulKind::Fast, 37),
+        ("div by 0", MdOp::Div, 0, false, MulKind::Fast, 1),
+        (
+            "div by 0 with fixed timing",
+            MdOp::Div,
+            0,
+            true,
+            MulKind::Fast,
+            37,
+        ),
+        ("remu by 0", MdOp::Remu, 0, false, MulKind::Slow, 1),
+        ("mul, single-cycle", MdOp::Mul, 7, false, MulKind::Single, 0),
+        ("mul, fast", MdOp::Mul, 7, false, MulKind::Fast, 2),
+        ("mul, slow", MdOp::Mul, 7, false, MulKind::Slow, 3),
+        (
+            "mul, slow with fixed timing",
+            MdOp::Mul,
+            7,
+            true,
+            MulKind::Slow,
+            32,
+        ),
+        (
+            "mulh, single-cycle",
+            MdOp::Mulh,
+            7,
+            false,
+            MulKind::Single,
+            1,
+        ),
+        ("mulhu, slow", MdOp::Mulhu, 7, false, MulKind::Slow, 32),
     ];
-    for (op, b, fixed, mul, cycles) in rows {
+    for (name, op, b, fixed, mul, cycles) in rows {
         let insn = Insn::MulDiv {
             op,
             rd: 9,
@@ -184,9 +214,14 @@ fn costs_of_operations(rt: HostRuntime) {
         };
         assert_eq!(rt;
             stay(item(0), &i),
-            (cycles, Turn::Retire { redirect: false })
+            (cycles, Turn::Retire { redirect: false }),
+            "at {name}"
         );
-        assert_eq!(rt; stay(item(1), &i), (cycles, Turn::Dummy));
+        assert_eq!(rt;
+            stay(item(1), &i),
+            (cycles, Turn::Dummy),
+            "at a dummy's {name}"
+        );
     }
 }
 

@@ -1,4 +1,5 @@
--- The admission of a cycle: from an empty stage, what the cycle left of the registers, and the two parcels at the head of the buffer.
+-- The admission of a cycle: from an empty stage, what the cycle left of the registers, and the two parcels at the head
+-- of the buffer.
 use Rattle.std.proofs.Common.{◌≡◌, ℕ, ◌+◌, ◌<◌, ◌≤◌, true, List}
 use Rattle.ibx_muldiv.specs.Unit.{idle_of as md_idle}
 use Rattle.ibx_machine.specs.Core.{entry_by, Entry}
@@ -20,8 +21,11 @@ use Rattle.ibx_csr.specs.declared.csrs.Csrs.{Csrs}
 use Rattle.ibx_lsu.specs.declared.unit.Lsu.{Lsu}
 use Rattle.ibx_prefetch.specs.declared.buffer.Head.{Head}
 
+-- what is admitted after the effects of a cycle, with its interrupt lines
 abbrev pub entry_in_cycle : ℕ → Head → Csrs → Dummy → ℕ → Entry
-entry_in_cycle lines head csrs dummies next_pc = entry_by (pending_of csrs.priv_ csrs.mstatus csrs.mie lines) (is_due_in (ctl_of (values csrs)) dummies) head csrs dummies next_pc
+entry_in_cycle lines head csrs dummies next_pc =
+    entry_by (pending_of csrs.priv_ csrs.mstatus csrs.mie lines) (is_due_in (ctl_of (values csrs)) dummies) head csrs
+    dummies next_pc
 
 -- an item is admitted in cycle c, with so many parcels that have answered, and its writes are to come
 pub record Admitted (s : Setup) (limit : ℕ) (h : Story) (c : ℕ) (e : Entry) (ls : Lsu) (p : PortState) : Type 0 where
@@ -34,13 +38,17 @@ pub record Admitted (s : Setup) (limit : ℕ) (h : Story) (c : ℕ) (e : Entry) 
   pub wires : wires_at (taken s c h).sent c ≡ wires_at h.sent c
   pub dummies : e.dummies ≡ (taken s c h).times.dummies
 
+-- nothing is admitted in cycle c, or an item is
 pub data Entered (s : Setup) (limit : ℕ) (h : Story) (c : ℕ) (e : Entry) (ls : Lsu) (p : PortState) : Type 0 where
-  nothing : e.taken ≡ 0 → e.dummies ≡ h.times.dummies → Empty s limit h (c + 1) e.id md_idle ls p → Entered s limit h c e ls p
+  nothing : e.taken ≡ 0 → e.dummies ≡ h.times.dummies → Empty s limit h (c + 1) e.id md_idle ls p
+      → Entered s limit h c e ls p
   item : Admitted s limit h c e ls p → Entered s limit h c e ls p
 
+-- a cycle that leaves the stage empty admits just what the history says
 abbrev pub Admits : Setup → Type 0
 Admits s =
-    (limit : ℕ) (h : Story) (c next_pc : ℕ) (csrs : Csrs) (regs : List ℕ) (dummies : Dummy) (head : Head) (ls : Lsu) (p : PortState)
+    (limit : ℕ) (h : Story) (c next_pc : ℕ) (csrs : Csrs) (regs : List ℕ) (dummies : Dummy) (head : Head) (ls : Lsu)
+    (p : PortState)
     → IsPlaced s
     → ArchFetches s
     → c < limit

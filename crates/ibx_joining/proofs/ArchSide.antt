@@ -1,7 +1,10 @@
--- The architecture in a cycle: what the stage sees, and what its effects leave. Each statement is over the fields that hold the state.
-use Rattle.std.proofs.Common.{◌≡◌, ℕ, ◌+◌, ◌%◌, ◌^◌, Bool, true, false, not, ◌||◌, List, if◌then◌else◌, ◌==◌, slice_index, bit_and, None, Option}
+-- The architecture in a cycle: what the stage sees, and what its effects leave. Each statement is over the fields that
+-- hold the state.
+use Rattle.std.proofs.Common.{◌≡◌, ℕ, ◌+◌, ◌%◌, ◌^◌, Bool, true, false, not, ◌||◌, List, if◌then◌else◌, ◌==◌}
+use Rattle.std.proofs.Common.{slice_index, bit_and, None, Option}
 use Rattle.ibx_csr.specs.Fields.{tick_of, glitch_of}
-use Rattle.ibx_machine.specs.Core.{is_fixed, access_by, Effect, cause_of, cost_by, effect_by, is_real, ra_of, rb_of, refused_by, row_of, sight_of}
+use Rattle.ibx_machine.specs.Core.{is_fixed, access_by, Effect, cause_of, cost_by, effect_by, is_real, ra_of, rb_of}
+use Rattle.ibx_machine.specs.Core.{refused_by, row_of, sight_of}
 use Rattle.ibx_time.specs.Times.{target_if}
 use Rattle.ibx_joining.proofs.Stages.{AreAccesses, ItemAt, PhaseAt}
 use Rattle.ibx_joining.proofs.Ties.{IsPlaced, IsState, Tied}
@@ -23,10 +26,12 @@ use Rattle.ibx_arch.specs.declared.fetched.Fetched.TheVariants.{Unsound, Instruc
 
 -- ---- what the stage sees is the item
 
+-- what only a real item has
 abbrev pub real_or : {A : Type 0} → Bool → Option A → Option A
 real_or true x = x
 real_or false x = None
 
+-- what the stage sees, by the row, its operands, whether it is real and whether timing is fixed
 abbrev pub eyes_at : Option Insn → ℕ → ℕ → Bool → Bool → IdState → Csrs → ℕ → MulKind → Eyes
 eyes_at row a b real fixed id csrs lines mul =
     record {
@@ -43,11 +48,16 @@ eyes_at row a b real fixed id csrs lines mul =
 
 -- by the codewords of the two registers
 abbrev pub eyes_of : IdState → Csrs → ℕ → ℕ → ℕ → MulKind → Eyes
-eyes_of id csrs rega regb lines mul = eyes_at (row_of id) (payload_of 32 rega) (payload_of 32 regb) (is_real id) (id.kind == 1 || is_fixed csrs) id csrs lines mul
+eyes_of id csrs rega regb lines mul =
+    eyes_at (row_of id) (payload_of 32 rega) (payload_of 32 regb) (is_real id) (id.kind == 1 || is_fixed csrs) id csrs
+    lines mul
 
+-- the same in cycle c, with the two registers read
 abbrev pub eyes_in : Setup → ℕ → IdState → Csrs → List ℕ → Eyes
-eyes_in s c id csrs regs = eyes_of id csrs (slice_index regs (ra_of id)) (slice_index regs (rb_of id)) (lines_in (settings_of s) c) s.mul
+eyes_in s c id csrs regs =
+    eyes_of id csrs (slice_index regs (ra_of id)) (slice_index regs (rb_of id)) (lines_in (settings_of s) c) s.mul
 
+-- the stage sees the item of the history
 abbrev pub ArchSees : Setup → Type 0
 ArchSees s =
     (limit t : ℕ) (h : Story) (c next_pc : ℕ) (id : IdState) (csrs : Csrs) (regs : List ℕ)
@@ -60,10 +70,12 @@ ArchSees s =
 
 -- ---- a cycle without an event
 
+-- the fields still hold the state, and the story is still valid
 pub record StillTied (s : Setup) (h : Story) (c next_pc : ℕ) (csrs : Csrs) (regs : List ℕ) : Type 0 where
   pub tied : Tied s h c next_pc csrs regs
   pub state : IsState s c h
 
+-- a cycle in which only the counters move leaves it so
 abbrev pub ArchRests : Setup → Type 0
 ArchRests s =
     (h : Story) (c next_pc : ℕ) (csrs : Csrs) (regs : List ℕ)
@@ -73,6 +85,7 @@ ArchRests s =
 
 -- ---- the effects in the item's last cycle are the step's, or none for a dummy
 
+-- the effects are those of the item: its event, the state after it, the dummies, the redirect and the FENCE.I
 pub record Left (s : Setup) (limit t : ℕ) (h : Story) (c : ℕ) (e : Effect) (regs : List ℕ) : Type 0 where
   pub happens : happens_at c e.happens ≡ event_at s limit t h
   pub tied : Tied s (continued s limit t h) (c + 1) e.next_pc e.csrs (put_reg e.write regs)
@@ -81,6 +94,7 @@ pub record Left (s : Setup) (limit t : ℕ) (h : Story) (c : ℕ) (e : Effect) (
   pub redirect : e.redirect ≡ target_if (item_at s t h).redirects (continued s limit t h).state.pc
   pub fence : e.fence ≡ (item_at s t h).fences
 
+-- the effects of an item's last cycle are those of its step
 abbrev pub ArchEnds : Setup → Type 0
 ArchEnds s =
     (limit t : ℕ) (h : Story) (st : System)
@@ -90,11 +104,14 @@ ArchEnds s =
     → st.main.dummies ≡ (taken s t h).times.dummies
     → ItemAt s t h st.main.id
     → PhaseAt s limit t h st.cycle st.main.id.phase
-    → Ends s limit t h st.cycle st.main.id st.main.md st.main.ls st.dport (eyes_in s st.cycle st.main.id st.main.csrs st.regs)
-    → Left s limit t h st.cycle (effect_by (sight_of st.main (in_of s st)).turn st.main (sight_of st.main (in_of s st)) (in_of s st)) st.regs
+    → Ends s limit t h st.cycle st.main.id st.main.md st.main.ls st.dport
+    (eyes_in s st.cycle st.main.id st.main.csrs st.regs)
+    → Left s limit t h st.cycle (effect_by (sight_of st.main (in_of s st)).turn st.main (sight_of st.main (in_of s st))
+    (in_of s st)) st.regs
 
 -- ---- the parcels of an instruction, as the admission counts them
 
+-- the word that was fetched, 0 for an unsound parcel
 abbrev pub fetched_word : Fetched → ℕ
 fetched_word (Unsound addr) = 0
 fetched_word (Instruction word size) = word
@@ -107,9 +124,12 @@ parcels_by true true second = 2
 
 -- the item of an instruction that was fetched so, and the word that its view has
 pub record IsFetched (s : Setup) (h : Story) (first second : ℕ) : Type 0 where
-  pub parcels : (item_of (settings_of s) h.times.ctl (view_with s h (Parcels first second))).parcels ≡ parcels_by (is_sound h.state.csrs h.state.memory.ram h.state.pc) (is_long first) (is_sound h.state.csrs h.state.memory.ram ((h.state.pc + 2) % 2 ^ 32))
+  pub parcels : (item_of (settings_of s) h.times.ctl (view_with s h (Parcels first second))).parcels
+      ≡ parcels_by (is_sound h.state.csrs h.state.memory.ram h.state.pc) (is_long first)
+      (is_sound h.state.csrs h.state.memory.ram ((h.state.pc + 2) % 2 ^ 32))
   pub word : (view_with s h (Parcels first second)).word ≡ fetched_word (fetch h.state first second)
 
+-- any two parcels are counted so
 abbrev pub ArchFetches : Setup → Type 0
 ArchFetches s =
     (c : ℕ) (h : Story) (first second : ℕ) → IsState s c h → IsFetched s h first second
@@ -120,9 +140,11 @@ ArchAccesses s = AreAccesses s
 
 -- ---- no alert
 
+-- the two registers that the stage reads are codewords
 abbrev pub ArchQuiet : Setup → Type 0
 ArchQuiet s =
     (h : Story) (c next_pc : ℕ) (id : IdState) (csrs : Csrs) (regs : List ℕ)
     → Tied s h c next_pc csrs regs
     → IsState s c h
-    → (syndrome_of 32 7 (slice_index regs (ra_of id)) ≡ 0) × (syndrome_of 32 7 (slice_index regs (rb_of id)) ≡ 0) × (glitch_of csrs ≡ false)
+    → (syndrome_of 32 7 (slice_index regs (ra_of id)) ≡ 0) × (syndrome_of 32 7 (slice_index regs (rb_of id)) ≡ 0)
+    × (glitch_of csrs ≡ false)

@@ -1,5 +1,6 @@
 -- The prefetch buffer before a cycle: the words that it holds and awaits, against those of the stream.
-use Rattle.std.proofs.Common.{◌≡◌, ℕ, zero, suc, ◌+◌, ◌*◌, ◌%◌, ◌^◌, ◌<◌, ◌≤◌, Bool, true, false, not, List, length, nat_le}
+use Rattle.std.proofs.Common.{◌≡◌, ℕ, zero, suc, ◌+◌, ◌*◌, ◌%◌, ◌^◌, ◌<◌, ◌≤◌, Bool, true, false, not, List, length}
+use Rattle.std.proofs.Common.{nat_le}
 use Rattle.ibx_time.specs.Settings.{Setup, settings_of}
 use Rattle.ibx_time.specs.Streams.{Stream, answer, last_of, past, word_addr}
 use Rattle.ibx_time.specs.Memories.{Write, memory_at}
@@ -15,9 +16,11 @@ use Rattle.ibx_arch.specs.Memory.{image_memory, read_bytes, is_mapped}
 abbrev pub word_in : Setup → List Write → ℕ → ℕ → ℕ
 word_in s log g a = read_bytes (memory_at (image_memory s.image) log g) a 4
 
+-- no memory answers at an address
 abbrev pub is_unmapped : Setup → ℕ → Bool
 is_unmapped s a = not (is_mapped s.image.ram a)
 
+-- the word with that in bit 32
 abbrev pub entry_in : Setup → List Write → ℕ → ℕ → ℕ
 entry_in s log g a = entry_of (is_unmapped s a) (word_in s log g a)
 
@@ -27,10 +30,12 @@ word_entry s log x j = entry_in s log (past (settings_of s) x (suc j)).grant (wo
 
 -- the halfword at an address in word j
 abbrev pub parcel_in : Setup → List Write → Stream → ℕ → ℕ → ℕ
-parcel_in s log x j addr = read_bytes (memory_at (image_memory s.image) log (past (settings_of s) x (suc j)).grant) addr 2
+parcel_in s log x j addr =
+    read_bytes (memory_at (image_memory s.image) log (past (settings_of s) x (suc j)).grant) addr 2
 
 -- ---- the buffer: q words of the stream are requested, and m of them taken
 
+-- no word is on its way, one is coming, or one that will be dropped, with so many words held
 pub data Count (q m : ℕ) (busy drop : Bool) (count : ℕ) : Type 0 where
   rest : busy ≡ false → drop ≡ false → count + m ≡ q → Count q m busy drop count
   coming : busy ≡ true → drop ≡ false → count + m + 1 ≡ q → Count q m busy drop count
@@ -45,6 +50,7 @@ pub record Holds (s : Setup) (log : List Write) (x : Stream) (b : ℕ) (f : Pref
   pub none1 : f.buf_count ≤ 1 → f.buf1 ≡ 0
   pub none2 : f.buf_count ≤ 2 → f.buf2 ≡ 0
 
+-- no word of the stream was requested yet
 abbrev pub is_zero : ℕ → Bool
 is_zero zero = true
 is_zero (suc _) = false
@@ -53,6 +59,7 @@ is_zero (suc _) = false
 abbrev pub pc_in : Stream → ℕ → ℕ
 pc_in x half = (4 * (x.base + length x.enters) + 2 * half) % 2 ^ 32
 
+-- the buffer is that of the stream
 pub record FetchAt (s : Setup) (log : List Write) (x : Stream) (half q : ℕ) (f : Prefetch) : Type 0 where
   pub head : f.head_pc ≡ pc_in x half
   pub half_low : half < 2
@@ -69,6 +76,7 @@ pub record Shows (s : Setup) (log : List Write) (x : Stream) (j addr c : ℕ) (p
   pub err : p.ready ≡ true → p.err ≡ is_unmapped s addr
   pub half : p.ready ≡ true → p.half ≡ parcel_in s log x j addr
 
+-- the head shows the two parcels at the program counter
 pub record HeadIs (s : Setup) (log : List Write) (x : Stream) (half c : ℕ) (h : Head) : Type 0 where
   pub first : Shows s log x (length x.enters) (pc_in x half) c h.first
   pub second : Shows s log x (length x.enters + half) ((pc_in x half + 2) % 2 ^ 32) c h.second

@@ -1,5 +1,7 @@
 -- Small facts about a cycle's phases, of which the join is made.
-use Rattle.std.proofs.Common.{◌≡◌, ℕ, zero, suc, ◌+◌, ◌*◌, ◌/◌, ◌%◌, ◌^◌, ◌<◌, ◌≤◌, Bool, true, false, not, List, [], ◌∷◌, ◌++◌, length, if◌then◌else◌, nat_le, ◌==◌, bit_and, Some, None, Option, sym, refl, ap, ◌∙◌, subst, arith, add-zero}
+use Rattle.std.proofs.Common.{◌≡◌, ℕ, zero, suc, ◌+◌, ◌*◌, ◌/◌, ◌%◌, ◌^◌, ◌<◌, ◌≤◌, Bool, true, false, not, List, []}
+use Rattle.std.proofs.Common.{◌∷◌, ◌++◌, length, if◌then◌else◌, nat_le, ◌==◌, bit_and, Some, None, Option, sym, refl}
+use Rattle.std.proofs.Common.{ap, ◌∙◌, subst, arith, add-zero}
 use Rattle.std.proofs.lemmas.Bool.{lt-ltb, le-ltb, lt-leb}
 use Rattle.ibx_muldiv.specs.declared.unit.MulDiv.{MulDiv as MulDivUnit}
 use Rattle.ibx_muldiv.specs.Unit.{idle_of as md_idle}
@@ -24,7 +26,8 @@ use Rattle.ibx_time.specs.Times.{ADummy, AnInstruction, AnInterrupt, Kind, enter
 use Rattle.ibx_time.specs.Memories.{Write, memory_at}
 use Rattle.ibx_time.specs.History.{Story}
 use Rattle.ibx_time.proofs.Times.{IsRequested, past_more}
-use Rattle.ibx_icache.specs.declared.doing.Doing.TheVariants.{Answers, AsksBare, AsksFirst, AsksSecond, AwaitsBare, AwaitsFirst, AwaitsSecond, Looks, Rests}
+use Rattle.ibx_icache.specs.declared.doing.Doing.TheVariants.{Answers, AsksBare, AsksFirst, AsksSecond, AwaitsBare}
+use Rattle.ibx_icache.specs.declared.doing.Doing.TheVariants.{AwaitsFirst, AwaitsSecond, Looks, Rests}
 use Rattle.ibx_icache.specs.Doing.{wires_by}
 use Rattle.ibx_icache.specs.declared.doing.Doing.{Doing}
 use Rattle.ibx_machine.specs.Core.{Effect, admits_by, md_next}
@@ -36,7 +39,8 @@ use Rattle.ibx_csr.specs.declared.csrs.Csrs.{Csrs}
 -- ---- memory
 
 -- no write is in cycle c
-pub memory_stays : (memory : Memory) (ws : List Write) (c : ℕ) → IsBefore ws c → memory_at memory ws (c + 1) ≡ memory_at memory ws c
+pub memory_stays : (memory : Memory) (ws : List Write) (c : ℕ) → IsBefore ws c
+    → memory_at memory ws (c + 1) ≡ memory_at memory ws c
 unfolding memory_at
 memory_stays memory [] c b = refl
 memory_stays memory (w ∷ ws) c b =
@@ -44,7 +48,8 @@ memory_stays memory (w ∷ ws) c b =
     (ap (λ m. with_bytes m w.addr w.from w.to w.value) (memory_stays memory ws c b.1))
 
 -- a fetch changes no memory
-pub fetch_reads : (granted : Bool) (m : MemoryState) (g : Doing) (addr : ℕ) → memory_after granted m (wires_by g addr) ≡ m
+pub fetch_reads : (granted : Bool) (m : MemoryState) (g : Doing) (addr : ℕ)
+    → memory_after granted m (wires_by g addr) ≡ m
 unfolding wires_by memory_next
 fetch_reads false m g addr = refl
 fetch_reads true m Rests addr = refl
@@ -65,7 +70,9 @@ unfolding head_of requested
 head_same None f = refl
 head_same (Some addr) f = refl
 
-took_by : (f : Prefetch) (b : Bool) (addr : ℕ) → b ≡ false → addr ≡ f.head_pc → record (popped b f) { head_pc = addr } ≡ f
+-- an even program counter stays where no parcel is taken
+took_by : (f : Prefetch) (b : Bool) (addr : ℕ) → b ≡ false → addr ≡ f.head_pc
+    → record (popped b f) { head_pc = addr } ≡ f
 unfolding popped
 took_by f true addr e k = let no_ : true ≡ false = e in cc
 took_by f false addr e k = ap (λ a. record f { head_pc = a }) k
@@ -78,7 +85,8 @@ took_none x half f e =
     (ap (λ a. a % 2 ^ 32) (add-zero f.head_pc) ∙ mod-eq_of_lt low)
   where
     low : f.head_pc < 2 ^ 32
-    low = subst (λ a. a < 2 ^ 32) (sym e) (mod_below (4 * (x.base + length x.enters) + 2 * half) (2 ^ 32) (omega arith))
+    low =
+        subst (λ a. a < 2 ^ 32) (sym e) (mod_below (4 * (x.base + length x.enters) + 2 * half) (2 ^ 32) (omega arith))
 
 -- ---- the turn
 
@@ -87,7 +95,9 @@ abbrev pub is_over : Turn → Bool
 is_over (Hold next) = false
 is_over turn = true
 
-pub over_admits : (turn : Turn) (head : Head) (e : Effect) (lines : ℕ) → is_over turn ≡ true → admits_by turn head e lines ≡ entry_in_cycle lines head e.csrs e.dummies e.next_pc
+-- after an empty stage the entry is the admission's, after a held item it is that item, and the multiplier rests
+pub over_admits : (turn : Turn) (head : Head) (e : Effect) (lines : ℕ) → is_over turn ≡ true
+    → admits_by turn head e lines ≡ entry_in_cycle lines head e.csrs e.dummies e.next_pc
 unfolding admits_by
 over_admits Idle head e lines k = refl
 over_admits (Hold next) head e lines k = let no_ : false ≡ true = k in cc
@@ -96,7 +106,8 @@ over_admits (Trap portion) head e lines k = refl
 over_admits Irq head e lines k = refl
 over_admits Dummy head e lines k = refl
 
-pub hold_admits : (turn : Turn) (next : IdState) (head : Head) (e : Effect) (lines : ℕ) → turn ≡ Hold next → admits_by turn head e lines ≡ record { id = next; taken = 0; dummies = e.dummies }
+pub hold_admits : (turn : Turn) (next : IdState) (head : Head) (e : Effect) (lines : ℕ) → turn ≡ Hold next
+    → admits_by turn head e lines ≡ record { id = next; taken = 0; dummies = e.dummies }
 unfolding admits_by
 hold_admits turn next head e lines k = ap (λ t. admits_by t head e lines) k
 
@@ -108,7 +119,9 @@ over_md (Trap portion) md k = refl
 over_md Irq md k = refl
 over_md Dummy md k = refl
 
-ending_over_by : (a b c redirect : Bool) → is_over (if a then Trap 1 else if b then Trap 2 else if c then Trap 0 else Retire redirect) ≡ true
+-- each ending turn leaves the stage empty
+ending_over_by : (a b c redirect : Bool)
+    → is_over (if a then Trap 1 else if b then Trap 2 else if c then Trap 0 else Retire redirect) ≡ true
 ending_over_by true b c redirect = refl
 ending_over_by false true c redirect = refl
 ending_over_by false false true redirect = refl
@@ -121,7 +134,9 @@ ending_over AnInstruction phase redirect = ending_over_by (phase == 2) (phase ==
 
 -- ---- the enable bit
 
-pub enables_is : (s : Setup) (h : Story) (c next_pc : ℕ) (csrs : Csrs) (regs : List ℕ) → Tied s h c next_pc csrs regs → enables csrs ≡ enables_cache h.times.ctl
+-- the core's bit is that of the times
+pub enables_is : (s : Setup) (h : Story) (c next_pc : ℕ) (csrs : Csrs) (regs : List ℕ) → Tied s h c next_pc csrs regs
+    → enables csrs ≡ enables_cache h.times.ctl
 unfolding values counters_after
 enables_is s h c next_pc csrs regs t =
     ap (λ (v : CsrValues). not (bit_and v.cpuctrl 1 == 0)) t.values_are ∙ sym (ap (λ (v : Ctl). enables_cache v) t.ctl)
@@ -135,18 +150,24 @@ has_request k x t c (suc q) r h less = omega arith
 
 -- ---- an item that enters
 
-pub late_unseen : (memory : Memory) (front ws : List Write) (c : ℕ) → AreLate front c → memory_at memory (front ++ ws) c ≡ memory_at memory ws c
+-- writes of this cycle or later aren't seen in it
+pub late_unseen : (memory : Memory) (front ws : List Write) (c : ℕ) → AreLate front c
+    → memory_at memory (front ++ ws) c ≡ memory_at memory ws c
 unfolding memory_at
 late_unseen memory [] ws c l = refl
 late_unseen memory (w ∷ front) ws c l = rw (le-ltb w.time c l.0) (late_unseen memory front ws c l.1)
 
-pub grows_unseen : (memory : Memory) (old more : List Write) (c : ℕ) → Grows old more c → memory_at memory more c ≡ memory_at memory old c
+pub grows_unseen : (memory : Memory) (old more : List Write) (c : ℕ) → Grows old more c
+    → memory_at memory more c ≡ memory_at memory old c
 grows_unseen memory old more c g = ap (λ ws. memory_at memory ws c) g.joined ∙ late_unseen memory g.front old c g.late
 
-past_entered_by : (k : Settings) (x : Stream) (e q : ℕ) (b : Bool) → q ≤ length x.enters + 3 → past k (record x { enters = if b then x.enters ++ e ∷ [] else x.enters }) q ≡ past k x q
+-- parcels that are taken change no word before the third one behind them
+past_entered_by : (k : Settings) (x : Stream) (e q : ℕ) (b : Bool) → q ≤ length x.enters + 3
+    → past k (record x { enters = if b then x.enters ++ e ∷ [] else x.enters }) q ≡ past k x q
 past_entered_by k x e q true low = past_more k x e q low
 past_entered_by k x e q false low = refl
 
 -- the words that are requested are the same
-pub past_entered : (k : Settings) (x : Stream) (half n e q : ℕ) → q ≤ length x.enters + 3 → past k (record x { enters = entered half n e x.enters }) q ≡ past k x q
+pub past_entered : (k : Settings) (x : Stream) (half n e q : ℕ) → q ≤ length x.enters + 3
+    → past k (record x { enters = entered half n e x.enters }) q ≡ past k x q
 past_entered k x half n e q low = past_entered_by k x e q (nat_le 2 (half + n)) low

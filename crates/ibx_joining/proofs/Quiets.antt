@@ -1,9 +1,12 @@
 -- No answer is wrong: what the ports hold are codewords.
-use Rattle.std.proofs.Common.{◌≡◌, ℕ, zero, suc, ◌+◌, ◌*◌, ◌/◌, ◌%◌, ◌^◌, ◌<◌, ◌≤◌, Bool, true, false, not, ◌&&◌, List, [], ◌∷◌, if◌then◌else◌, nat_lt, nat_le, ◌==◌, Some, None, sym, refl, ap, ◌∙◌, arith, mul-le-mul_right, pow-suc}
+use Rattle.std.proofs.Common.{◌≡◌, ℕ, zero, suc, ◌+◌, ◌*◌, ◌/◌, ◌%◌, ◌^◌, ◌<◌, ◌≤◌, Bool, true, false, not, ◌&&◌, List}
+use Rattle.std.proofs.Common.{[], ◌∷◌, if◌then◌else◌, nat_lt, nat_le, ◌==◌, Some, None, sym, refl, ap, ◌∙◌, arith}
+use Rattle.std.proofs.Common.{mul-le-mul_right, pow-suc}
 use Rattle.ibx_elf.specs.Image.{image_byte}
 use Rattle.ibx_secded.proofs.Laws.{syndrome_of-encode}
 use Rattle.std.proofs.lemmas.Nat.{mod_below}
-use Rattle.ibx_joining.proofs.Links.{idle, Link, Work, bare_asks, bare_waits, first_asks, first_waits, last, line_base, looks, pending, second_asks, second_waits}
+use Rattle.ibx_joining.proofs.Links.{idle, Link, Work, bare_asks, bare_waits, first_asks, first_waits, last, line_base}
+use Rattle.ibx_joining.proofs.Links.{looks, pending, second_asks, second_waits}
 use Rattle.ibx_joining.proofs.Fetches.{word_in}
 use Rattle.ibx_joining.proofs.Stages.{LsAt, failed, new, opened, portion_word, quiet, waiting}
 use Rattle.ibx_joining.proofs.Ties.{IsPlaced}
@@ -28,6 +31,7 @@ use Rattle.ibx_lsu.specs.declared.unit.Lsu.{Lsu}
 
 -- ---- bytes and words below their bounds
 
+-- words of bytes are below 2 ^ 32: those of memory at any time, of the fetch port and of a portion
 number_low : (f : ℕ → ℕ) (n : ℕ) → ((k : ℕ) → f k < 256) → bytes_number f n < 256 ^ n
 unfolding bytes_number
 number_low f zero h = omega arith
@@ -37,39 +41,48 @@ number_low f (suc n) h =
     omega (arith, number_low f n h, more, step_)
 
 pub read_low : (memory : Memory) (a : ℕ) → ((b : ℕ) → memory.byte b < 256) → read_bytes memory a 4 < 2 ^ 32
-read_low memory a h = number_low (λ k. read_byte memory ((a + k) % 2 ^ 32)) 4 (λ k. by (ram_has memory.ram ((a + k) % 2 ^ 32)) (memory.byte ((a + k) % 2 ^ 32)) (h ((a + k) % 2 ^ 32)))
+read_low memory a h = number_low (λ k. read_byte memory ((a + k) % 2 ^ 32)) 4
+    (λ k. by (ram_has memory.ram ((a + k) % 2 ^ 32)) (memory.byte ((a + k) % 2 ^ 32)) (h ((a + k) % 2 ^ 32)))
   where
     by : (b : Bool) (n : ℕ) → n < 256 → (if b then n else 0) < 256
     by true n h = h
     by false n h = omega arith
 
-with_low : (memory : Memory) (addr from to value a : ℕ) → memory.byte a < 256 → (with_bytes memory addr from to value).byte a < 256
+with_low : (memory : Memory) (addr from to value a : ℕ) → memory.byte a < 256
+    → (with_bytes memory addr from to value).byte a < 256
 unfolding with_bytes
 with_low memory addr from to value a h =
-    by (ram_has memory.ram a && (nat_le from (offset_from addr a) && nat_lt (offset_from addr a) to)) (value / 256 ^ offset_from addr a) (memory.byte a) h
+    by (ram_has memory.ram a && (nat_le from (offset_from addr a) && nat_lt (offset_from addr a) to))
+    (value / 256 ^ offset_from addr a) (memory.byte a) h
   where
     by : (b : Bool) (v n : ℕ) → n < 256 → (if b then v % 256 else n) < 256
     by true v n h = mod_below v 256 (omega arith)
     by false v n h = h
 
-pub memory_low : (memory : Memory) (ws : List Write) (c a : ℕ) → ((b : ℕ) → memory.byte b < 256) → (memory_at memory ws c).byte a < 256
+pub memory_low : (memory : Memory) (ws : List Write) (c a : ℕ) → ((b : ℕ) → memory.byte b < 256)
+    → (memory_at memory ws c).byte a < 256
 unfolding memory_at
 memory_low memory [] c a h = h a
 memory_low memory (w ∷ ws) c a h =
-    elim (nat_lt w.time c) as (λ b. (if b then with_bytes (memory_at memory ws c) w.addr w.from w.to w.value else memory_at memory ws c).byte a < 256) [
+    elim (nat_lt w.time c) as (λ b. (if b then with_bytes (memory_at memory ws c) w.addr w.from w.to w.value
+    else memory_at memory ws c).byte a < 256) [
       | true ↦ with_low (memory_at memory ws c) w.addr w.from w.to w.value a (memory_low memory ws c a h)
       | false ↦ memory_low memory ws c a h
     ]
 
 pub image_low : (s : Setup) → IsPlaced s → (a : ℕ) → (image_memory s.image).byte a < 256
 unfolding image_memory
-image_low s ok a = elim (ram_has s.image.ram a) as (λ b. (if b then image_byte s.image a else 0) < 256) [ true ↦ ok.bytes a | false ↦ omega arith ]
+image_low s ok a = elim (ram_has s.image.ram a) as (λ b. (if b then image_byte s.image a else 0) < 256)
+    [ true ↦ ok.bytes a | false ↦ omega arith ]
 
 pub word_low : (s : Setup) → IsPlaced s → (log : List Write) (g a : ℕ) → word_in s log g a < 2 ^ 32
-word_low s ok log g a = read_low (memory_at (image_memory s.image) log g) a (λ b. memory_low (image_memory s.image) log g b (image_low s ok))
+word_low s ok log g a = read_low (memory_at (image_memory s.image) log g) a
+    (λ b. memory_low (image_memory s.image) log g b (image_low s ok))
 
-pub portion_low : (h : Story) (w : Access) (b : Bool) → ((a : ℕ) → h.state.memory.byte a < 256) → portion_word h w b < 2 ^ 32
-portion_low h w b low = by w.store (read_bytes h.state.memory (portion_addr w.addr b / 4 * 4) 4) (read_low h.state.memory (portion_addr w.addr b / 4 * 4) low)
+pub portion_low : (h : Story) (w : Access) (b : Bool) → ((a : ℕ) → h.state.memory.byte a < 256)
+    → portion_word h w b < 2 ^ 32
+portion_low h w b low = by w.store (read_bytes h.state.memory (portion_addr w.addr b / 4 * 4) 4)
+    (read_low h.state.memory (portion_addr w.addr b / 4 * 4) low)
   where
     by : (b : Bool) (n : ℕ) → n < 2 ^ 32 → (if b then 0 else n) < 2 ^ 32
     by true n h = omega arith
@@ -77,7 +90,10 @@ portion_low h w b low = by w.store (read_bytes h.state.memory (portion_addr w.ad
 
 -- ---- a port's answer
 
-quiet_by : (b err : Bool) (word : ℕ) → (b ≡ true → syndrome_of 32 7 word ≡ 0) → is_flipped (if b then record { valid = true; err = err; word = word } else record { valid = false; err = false; word = 0 }) ≡ false
+-- an answer without a flipped bit: none, an idle port's, and a codeword's
+quiet_by : (b err : Bool) (word : ℕ) → (b ≡ true → syndrome_of 32 7 word ≡ 0)
+    → is_flipped (if b then record { valid = true; err = err; word = word }
+    else record { valid = false; err = false; word = 0 }) ≡ false
 quiet_by true err word h = ap (λ n. not (n == 0)) (h refl)
 quiet_by false err word h = refl
 
@@ -97,32 +113,46 @@ quiet_word p v low e = quiet_port p (λ _. ap (syndrome_of 32 7) e ∙ syndrome_
 
 -- ---- both sides
 
-work_quiet : (s : Setup) → IsPlaced s → (log : List Write) (ss : List Switch) (fs : List ℕ) (y : Past) (t a c e : ℕ) (w : WordPort) (p : PortState) (tags lines : List ℕ)
+-- the fetch port's answer is such a one, in each state of its request
+work_quiet : (s : Setup) → IsPlaced s
+    → (log : List Write) (ss : List Switch) (fs : List ℕ) (y : Past) (t a c e : ℕ) (w : WordPort) (p : PortState)
+    (tags lines : List ℕ)
     → Work s log ss fs y t a c e w p tags lines → is_flipped (answer_wires p) ≡ false
 work_quiet s ok log ss fs y t a c e w p tags lines (bare_asks b d i k) = quiet_none p i.busy
-work_quiet s ok log ss fs y t a c e w p tags lines (bare_waits b d g k) = quiet_word p (word_in s log (grant_time s.plan.iwaits (made y) t) a) (word_low s ok log (grant_time s.plan.iwaits (made y) t) a) g.word_is
+work_quiet s ok log ss fs y t a c e w p tags lines (bare_waits b d g k) =
+    quiet_word p (word_in s log (grant_time s.plan.iwaits (made y) t) a)
+    (word_low s ok log (grant_time s.plan.iwaits (made y) t) a) g.word_is
 work_quiet s ok log ss fs y t a c e w p tags lines (looks b n d x i k) = quiet_none p i.busy
 work_quiet s ok log ss fs y t a c e w p tags lines (first_asks b m d i k) = quiet_none p i.busy
-work_quiet s ok log ss fs y t a c e w p tags lines (first_waits b m d g k) = quiet_word p (word_in s log (first_grant (settings_of s) y t) (line_base a)) (word_low s ok log (first_grant (settings_of s) y t) (line_base a)) g.word_is
+work_quiet s ok log ss fs y t a c e w p tags lines (first_waits b m d g k) =
+    quiet_word p (word_in s log (first_grant (settings_of s) y t) (line_base a))
+    (word_low s ok log (first_grant (settings_of s) y t) (line_base a)) g.word_is
 work_quiet s ok log ss fs y t a c e w p tags lines (second_asks b m d x i k) = quiet_none p i.busy
-work_quiet s ok log ss fs y t a c e w p tags lines (second_waits b m d x g k) = quiet_word p (word_in s log (second_grant (settings_of s) y t) (line_base a + 4)) (word_low s ok log (second_grant (settings_of s) y t) (line_base a + 4)) g.word_is
+work_quiet s ok log ss fs y t a c e w p tags lines (second_waits b m d x g k) =
+    quiet_word p (word_in s log (second_grant (settings_of s) y t) (line_base a + 4))
+    (word_low s ok log (second_grant (settings_of s) y t) (line_base a + 4)) g.word_is
 work_quiet s ok log ss fs y t a c e w p tags lines (last b m d x u v i k) = quiet_none p i.busy
 
-link_quiet : (s : Setup) → IsPlaced s → (log : List Write) (x : Stream) (q c e : ℕ) (busy : Bool) (w : WordPort) (p : PortState) (tags lines : List ℕ)
+link_quiet : (s : Setup) → IsPlaced s
+    → (log : List Write) (x : Stream) (q c e : ℕ) (busy : Bool) (w : WordPort) (p : PortState) (tags lines : List ℕ)
     → Link s log x q c e busy w p tags lines → is_flipped (answer_wires p) ≡ false
 link_quiet s ok log x q c e busy w p tags lines (idle b d i k z) = quiet_none p i.busy
-link_quiet s ok log x q c e busy w p tags lines (pending y t a work) = work_quiet s ok log x.switches x.fences y t (last_of x q) c e w p tags lines work
+link_quiet s ok log x q c e busy w p tags lines (pending y t a work) =
+    work_quiet s ok log x.switches x.fences y t (last_of x q) c e w p tags lines work
 
 pub fetch_quiet : (s : Setup) → FetchQuiet s
 fetch_quiet s log x half q c enable f w p tags lines ok v = link_quiet s ok log x q c c f.f_busy w p tags lines v.link
 
-ls_quiet : (s : Setup) (t : ℕ) (h : Story) (c : ℕ) (ls : Lsu) (p : PortState) → ((a : ℕ) → h.state.memory.byte a < 256) → LsAt s t h c ls p → is_flipped (answer_wires p) ≡ false
+-- and so is the data port's
+ls_quiet : (s : Setup) (t : ℕ) (h : Story) (c : ℕ) (ls : Lsu) (p : PortState) → ((a : ℕ) → h.state.memory.byte a < 256)
+    → LsAt s t h c ls p → is_flipped (answer_wires p) ≡ false
 ls_quiet s t h c ls p low (quiet k e i) = quiet_none p i.busy
 ls_quiet s t h c ls p low (new w b r e now i) = quiet_none p i.busy
 ls_quiet s t h c ls p low (waiting w b r e i) = quiet_none p i.busy
 ls_quiet s t h c ls p low (opened w b r e g) = quiet_word p (portion_word h w b) (portion_low h w b low) g.word_is
 ls_quiet s t h c ls p low (failed b k e at i) = quiet_none p i.busy
 
+-- so neither port raises an alert
 pub stage_quiet : (s : Setup) → StageQuiet s
 stage_quiet s limit h None c id md ls p state u = quiet_none p u.idle.busy
 stage_quiet s limit h (Some t) c id md ls p state f = ls_quiet s t h c ls p state.bytes f.part

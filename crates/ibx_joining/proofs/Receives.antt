@@ -22,21 +22,26 @@ rest_silent : (w : WordPort) (rsp : Rsp) (l : Look) → doing_of w.c_state ≡ R
 unfolding answer_of answers_by
 rest_silent w rsp l e = rw e refl
 
-answers_busy : (s : Setup) (log : List Write) (x : Stream) (q c e : ℕ) (busy fence : Bool) (w : WordPort) (p : PortState) (tags lines : List ℕ) (rsp : Rsp) (l : Look)
+-- so a port that answers has a word outstanding
+answers_busy : (s : Setup) (log : List Write) (x : Stream) (q c e : ℕ) (busy fence : Bool) (w : WordPort)
+    (p : PortState) (tags lines : List ℕ) (rsp : Rsp) (l : Look)
     → Link s log x q c e busy (marked fence w) p tags lines → (answer_of w rsp l).valid ≡ true → busy ≡ true
 answers_busy s log x q c e busy fence w p tags lines rsp l (idle b rest port cache late) answers =
     let no_ : false ≡ true = sym (rest_silent w rsp l rest) ∙ answers in cc
 answers_busy s log x q c e busy fence w p tags lines rsp l (pending y t asked work) answers = asked.is_busy
 
+-- and a redirect leaves it outstanding
 turned_busy : (redirect : Option ℕ) (f : Prefetch) → (turned redirect f).f_busy ≡ f.f_busy
 unfolding turned
 turned_busy None f = refl
 turned_busy (Some target) f = refl
 
 -- after the done of a cycle, with its redirect or without
-pub received_as : (s : Setup) (log : List Write) (x : Stream) (half q c : ℕ) (fence enable next : Bool) (redirect : Option ℕ) (f : Prefetch) (w : WordPort) (p : PortState) (tags lines : List ℕ)
+pub received_as : (s : Setup) (log : List Write) (x : Stream) (half q c : ℕ) (fence enable next : Bool)
+    (redirect : Option ℕ) (f : Prefetch) (w : WordPort) (p : PortState) (tags lines : List ℕ)
     → WordsMid s log x half q c fence enable next (turned redirect f) w p tags lines
     → fetch_after_answer (ans_of w p tags lines) redirect f ≡ receives (ans_of w p tags lines) (turned redirect f)
 received_as s log x half q c fence enable next redirect f w p tags lines m =
     fetch_after_answer-outstanding (ans_of w p tags lines) redirect f
-    (λ answers. sym (turned_busy redirect f) ∙ answers_busy s log x q c (c + 1) (turned redirect f).f_busy fence w p tags lines _ _ m.link answers)
+    (λ answers. sym (turned_busy redirect f)
+    ∙ answers_busy s log x q c (c + 1) (turned redirect f).f_busy fence w p tags lines _ _ m.link answers)

@@ -9,19 +9,13 @@ use Rattle.ibx_time.specs.Settings.{Setup, lines_in, settings_of}
 use Rattle.ibx_time.specs.Controls.{ctl_of}
 use Rattle.ibx_time.specs.Memories.{Write, memory_at}
 use Rattle.ibx_time.specs.History.{Story}
-use Rattle.ibx_machine.specs.Whole.{IsSetup}
+pub use Rattle.ibx_machine.specs.Whole.{IsPlaced}
 use Rattle.ibx_arch.specs.Memory.{image_memory}
 use Rattle.ibx_csr.specs.Fields.{Complemented, values}
 use Rattle.ibx_csr.specs.Values.{CsrValues}
 use Rattle.ibx_secded.specs.Code.{encode_of}
 use Rattle.ibx_csr.specs.declared.csrs.Csrs.{Csrs}
 use Rattle.ibx_memory.specs.Coded.{HoldsMemory}
-
--- a setup whose image has bytes, and whose interrupt lines are words
-pub record IsPlaced (s : Setup) : Type 0 where
-  pub setup : IsSetup s
-  pub lines : (c : ℕ) → lines_in (settings_of s) c < 2 ^ 32
-  pub bytes : (addr : ℕ) → image_byte s.image addr < 256
 
 -- memory over time, by the story with the item in the stage
 abbrev pub MemoryAt : Setup → Story → ℕ → MemoryState → Type 0
@@ -32,6 +26,7 @@ abbrev pub IsBefore : List Write → ℕ → Type 0
 IsBefore [] c = Unit {0}
 IsBefore (w ∷ ws) c = (w.time < c) × IsBefore ws c
 
+-- all these writes are at c or later
 abbrev pub AreLate : List Write → ℕ → Type 0
 AreLate [] c = Unit {0}
 AreLate (w ∷ ws) c = (c ≤ w.time) × AreLate ws c
@@ -44,6 +39,7 @@ pub record Grows (old new : List Write) (c : ℕ) : Type 0 where
 
 -- ---- the core's fields before cycle c, and the story of the items that are done
 
+-- registers, program counter and CSRs are those of the story's state
 pub record Tied (s : Setup) (h : Story) (c next_pc : ℕ) (csrs : Csrs) (regs : List ℕ) : Type 0 where
   pub values_are : values csrs ≡ (at_cycle h.state c).csrs
   pub complemented : Complemented csrs
@@ -78,6 +74,7 @@ pub record IsSettled (s : Setup) (c : ℕ) (h : Story) : Type 0 where
   pub granted : AreGranted h.sent c
   pub memory : h.state.memory ≡ memory_at (image_memory s.image) h.writes c
 
+-- the state is valid, and stands at a cycle up to c
 pub record IsState (s : Setup) (c : ℕ) (h : Story) : Type 0 where
   pub pc_even : h.state.pc % 2 ≡ 0
   pub pc_low : h.state.pc < 2 ^ 32

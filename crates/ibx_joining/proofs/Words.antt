@@ -14,7 +14,8 @@ use Rattle.ibx_time.proofs.Times.{IsPast, IsRequested, IsSound}
 use Rattle.ibx_prefetch.specs.declared.buffer.Prefetch.{Prefetch}
 
 -- before cycle c: q words of the stream are requested, and the bit that enables the cache is this
-pub record WordsAt (s : Setup) (log : List Write) (x : Stream) (half q c : ℕ) (enable : Bool) (f : Prefetch) (w : WordPort) (p : PortState) (tags lines : List ℕ) : Type 0 where
+pub record WordsAt (s : Setup) (log : List Write) (x : Stream) (half q c : ℕ) (enable : Bool) (f : Prefetch)
+    (w : WordPort) (p : PortState) (tags lines : List ℕ) : Type 0 where
   pub fetch : FetchAt s log x half q f
   pub link : Link s log x q c c f.f_busy w p tags lines
   pub requested : IsRequested (settings_of s) x c q
@@ -26,7 +27,8 @@ pub record WordsAt (s : Setup) (log : List Write) (x : Stream) (half q c : ℕ) 
   pub sent : IsSent x.before
 
 -- in cycle c after the done, with a FENCE.I in it or without, and the bit of the next cycle
-pub record WordsMid (s : Setup) (log : List Write) (x : Stream) (half q c : ℕ) (fence enable next : Bool) (f : Prefetch) (w : WordPort) (p : PortState) (tags lines : List ℕ) : Type 0 where
+pub record WordsMid (s : Setup) (log : List Write) (x : Stream) (half q c : ℕ) (fence enable next : Bool)
+    (f : Prefetch) (w : WordPort) (p : PortState) (tags lines : List ℕ) : Type 0 where
   pub fetch : FetchAt s log x half q f
   pub link : Link s log x q c (c + 1) f.f_busy (marked fence w) p tags lines
   pub requested : IsRequested (settings_of s) x c q
@@ -38,7 +40,8 @@ pub record WordsMid (s : Setup) (log : List Write) (x : Stream) (half q c : ℕ)
   pub sent : IsSent x.before
 
 -- After the answer, with the cache's words as this cycle leaves them. The walk is where it was before the cycle.
-pub record AfterAnswer (s : Setup) (log : List Write) (x : Stream) (half q c walk : ℕ) (fence enable next : Bool) (f : Prefetch) (w : WordPort) (p : PortState) (tags lines : List ℕ) : Type 0 where
+pub record AfterAnswer (s : Setup) (log : List Write) (x : Stream) (half q c walk : ℕ) (fence enable next : Bool)
+    (f : Prefetch) (w : WordPort) (p : PortState) (tags lines : List ℕ) : Type 0 where
   pub fetch : FetchAt s log x half q f
   pub mid : Mid s log x q c f.f_busy w p tags lines
   pub requested : IsRequested (settings_of s) x c q
@@ -51,7 +54,8 @@ pub record AfterAnswer (s : Setup) (log : List Write) (x : Stream) (half q c wal
   pub sent : IsSent x.before
 
 -- after the issue: what is requested before the next cycle
-pub record AfterIssue (s : Setup) (log : List Write) (x : Stream) (half q c walk : ℕ) (fence enable next : Bool) (f : Prefetch) (w : WordPort) (p : PortState) (tags lines : List ℕ) : Type 0 where
+pub record AfterIssue (s : Setup) (log : List Write) (x : Stream) (half q c walk : ℕ) (fence enable next : Bool)
+    (f : Prefetch) (w : WordPort) (p : PortState) (tags lines : List ℕ) : Type 0 where
   pub fetch : FetchAt s log x half q f
   pub mid : Mid s log x q c f.f_busy w p tags lines
   pub requested : IsRequested (settings_of s) x (c + 1) q

@@ -18,6 +18,7 @@ abbrev pub differ : Bool → Bool → Bool
 differ true b = not b
 differ false b = b
 
+-- whether an operation gives a quotient or a remainder
 abbrev pub is_division : MdOp → Bool
 is_division Mul = false
 is_division Mulh = false
@@ -28,10 +29,11 @@ is_division Divu = true
 is_division Rem = true
 is_division Remu = true
 
+-- the two magnitudes, whether the high word is the answer, and whether it is negated
 abbrev pub operands : ℕ → ℕ → Bool → Bool → Operands
 operands first second high negate = record { first = first; second = second; high = high; negate = negate }
 
--- A product has a high and a low word; a division leaves its remainder in the high word and its quotient in the low one.
+-- A product has a high and a low word; a division's remainder counts as its high word and its quotient as the low one.
 -- A remainder has the sign of the dividend, and the quotient by 0 isn't negated (Unprivileged ISA, 7.2).
 unfoldable pub operands_of : MdOp → ℕ → ℕ → Operands
 operands_of Mul a b = operands a b false false

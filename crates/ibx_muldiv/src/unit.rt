@@ -12,12 +12,12 @@ use ibx_isa::{MdOp, MulKind, md_cost};
 /// cycles, 0 to 63, that are left until its result.
 #[derive(Clone, Copy, Debug, PartialEq, Eq)]
 pub struct MulDiv {
-    /// The multiplicand.
+    /// The multiplicand. Of a division the low word alone counts: the dividend's rest, above the quotient's bits.
     pub md_a: u64,
     /// Bits 31:0 are the multiplier's rest or the divisor, 37:32 the cycles left, and 43:38 the multiplier's bits that
     /// a cycle takes. Bit 44 tells a division, bit 45 that the high word is the result, and bit 46 that it is negated.
     pub md_b: u64,
-    /// The sum so far, or a division's remainder above its quotient.
+    /// The sum so far, or a division's remainder.
     pub md_acc: u64,
 }
 

@@ -1,4 +1,4 @@
-ghost use Rattle.std.specs.Prelude.{◌≡◌, ◌<◌, ◌^◌};
+ghost use Rattle.std.specs.Prelude.{◌≡◌, ◌<◌, ◌%◌, ◌^◌};
 ghost use Rattle.ibx_muldiv.specs.Steps.{answer_of, begun_division, begun_product, divided, division_step, multiplied, negated, step_of, word_of};
 
 use crate::operands::Operands;
@@ -7,9 +7,10 @@ use ibx_isa::MulKind;
 /// A calculation in progress.
 #[derive(Clone, Copy)]
 pub struct Work {
-    /// The sum of a product so far, or the partial remainder above the dividend's rest and the quotient's bits.
+    /// The sum of a product so far, or the remainder of a division so far.
     pub sum: u64,
-    /// The first factor, at the place of the multiplier's next bit.
+    /// The first factor, at the place of the multiplier's next bit. Of a division the low word alone counts: the
+    /// dividend's bits that are still to be taken, above the quotient's bits.
     pub multiplicand: u64,
     /// The multiplier's bits that are still to be taken, or the divisor.
     pub rest: u32,
@@ -44,18 +45,16 @@ impl Work {
         if left == 0 { work.multiply(32) } else { work }
     }
 
+    /// A division of one cycle is by 0, and has its answer at once.
     #[tactic(auto, unfolding(crate::specs::Steps::begun_division))]
     pub fn division(operands: Operands, left: u8) -> Work
         ensures { result ≡ begun_division operands left }
     {
         let dividend = operands.first as u64;
+        let at_once = left == 1;
         Work {
-            sum: if operands.second == 0 {
-                dividend * 0x1_0000_0000 + 0xffff_ffff
-            } else {
-                dividend
-            },
-            multiplicand: 0,
+            sum: if at_once { dividend } else { 0 },
+            multiplicand: if at_once { 0xffff_ffff } else { dividend },
             rest: operands.second,
             left,
             pace: 0,
@@ -82,12 +81,16 @@ impl Work {
         }
     }
 
-    /// The word that the sum holds as its answer.
+    /// The word that the calculation holds as its answer.
     pub fn answer(self) -> u32
-        ensures { result ≡ answer_of self.divides self.high self.negate self.sum }
+        ensures { result ≡ answer_of self.divides self.high self.negate self.sum self.multiplicand }
     {
         if self.divides {
-            let word = word(self.high, self.sum);
+            let word = low_word(if self.high {
+                self.sum
+            } else {
+                self.multiplicand
+            });
             if self.negate {
                 word.wrapping_neg()
             } else {
@@ -134,14 +137,15 @@ impl Work {
         }
     }
 
+    // The first 32 of 37 cycles take a bit each.
     #[tactic(auto, unfolding(crate::specs::Steps::division_step))]
     fn divide(self) -> Work
         ensures { result ≡ division_step self }
     {
-        if self.rest == 0 || self.left > 32 {
-            self
-        } else {
+        if self.left > 5 {
             self.divide_bit()
+        } else {
+            self
         }
     }
 
@@ -149,19 +153,19 @@ impl Work {
     fn divide_bit(self) -> Work
         ensures { result ≡ divided self }
     {
-        let partial = self.sum >> 31;
-        let low = self.sum % 0x8000_0000 * 2;
+        let partial = self.sum % 0x8000_0000_0000_0000 * 2 + (self.multiplicand >> 31) % 2;
+        let low = self.multiplicand % 0x8000_0000 * 2;
         let divisor = self.rest as u64;
         if divisor <= partial {
-            let remainder = (partial - divisor) % 0x1_0000_0000;
             Work {
-                sum: remainder * 0x1_0000_0000 + low + 1,
+                sum: partial - divisor,
+                multiplicand: low + 1,
                 ..self
             }
         } else {
-            let remainder = partial % 0x1_0000_0000;
             Work {
-                sum: remainder * 0x1_0000_0000 + low,
+                sum: partial,
+                multiplicand: low,
                 ..self
             }
         }
@@ -174,6 +178,12 @@ fn word(high: bool, sum: u64) -> u32
     if high {
         (sum >> 32) as u32
     } else {
-        (sum % 0x1_0000_0000) as u32
+        low_word(sum)
     }
+}
+
+fn low_word(number: u64) -> u32
+    ensures { result ≡ number % 2 ^ 32 }
+{
+    (number % 0x1_0000_0000) as u32
 }

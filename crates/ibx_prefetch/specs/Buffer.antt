@@ -1,5 +1,6 @@
 -- The prefetch buffer, phase by phase: a redirect, an answer, a request, and the parcels that are taken. Our own rule.
-use Rattle.std.specs.Prelude.{ℕ, zero, suc, ◌+◌, ◌-◌, ◌*◌, ◌/◌, ◌%◌, ◌^◌, Bool, true, false, not, ◌&&◌, ◌||◌, ◌==◌, nat_le, nat_lt, if◌then◌else◌, Option, Some, None}
+use Rattle.std.specs.Prelude.{ℕ, zero, suc, ◌+◌, ◌-◌, ◌*◌, ◌/◌, ◌%◌, ◌^◌, Bool, true, false, not, ◌&&◌, ◌||◌, ◌==◌}
+use Rattle.std.specs.Prelude.{nat_le, nat_lt, if◌then◌else◌, Option, Some, None}
 use Rattle.ibx_prefetch.specs.declared.buffer.Prefetch.{Prefetch}
 use Rattle.ibx_prefetch.specs.declared.buffer.WordAns.{WordAns}
 use Rattle.ibx_prefetch.specs.declared.buffer.Parcel.{Parcel}
@@ -7,7 +8,17 @@ use Rattle.ibx_prefetch.specs.declared.buffer.Head.{Head}
 
 -- at reset nothing is held or outstanding, and the next word is the entry's
 unfoldable pub fetch_reset : ℕ → Prefetch
-fetch_reset entry = record { f_busy = false; f_fresh = true; f_drop = false; f_addr = 0; buf0 = 0; buf1 = 0; buf2 = 0; buf_count = 0; head_pc = entry }
+fetch_reset entry = record {
+  f_busy = false;
+  f_fresh = true;
+  f_drop = false;
+  f_addr = 0;
+  buf0 = 0;
+  buf1 = 0;
+  buf2 = 0;
+  buf_count = 0;
+  head_pc = entry;
+}
 
 -- a word with its error in bit 32
 abbrev pub entry_of : Bool → ℕ → ℕ
@@ -21,7 +32,8 @@ is_turn (Some target) = true
 -- a redirect empties the buffer, and the answer that is outstanding is dropped
 unfoldable pub turned : Option ℕ → Prefetch → Prefetch
 turned None f = f
-turned (Some target) f = record f { f_fresh = true; f_drop = f.f_busy; buf0 = 0; buf1 = 0; buf2 = 0; buf_count = 0; head_pc = target }
+turned (Some target) f =
+    record f { f_fresh = true; f_drop = f.f_busy; buf0 = 0; buf1 = 0; buf2 = 0; buf_count = 0; head_pc = target }
 
 -- a word more; with three words it is lost
 unfoldable pub pushed : ℕ → ℕ → Prefetch → Prefetch
@@ -30,9 +42,9 @@ pushed (suc zero) entry f = record f { buf1 = entry; buf_count = 2 }
 pushed (suc (suc zero)) entry f = record f { buf2 = entry; buf_count = 3 }
 pushed (suc (suc (suc n))) entry f = f
 
--- by whether a word answers, and whether it is dropped
+-- by whether a word answers, and whether it is dropped; a mark without an outstanding request is lost
 unfoldable pub received : Bool → Bool → ℕ → Prefetch → Prefetch
-received false drop entry f = f
+received false drop entry f = record f { f_drop = f.f_drop && f.f_busy }
 received true true entry f = record f { f_busy = false; f_drop = false }
 received true false entry f = pushed f.buf_count entry (record f { f_busy = false })
 
@@ -40,6 +52,7 @@ received true false entry f = pushed f.buf_count entry (record f { f_busy = fals
 abbrev pub held_word : Prefetch → ℕ → ℕ
 held_word f k = if k == 0 then f.buf0 else if k == 1 then f.buf1 else f.buf2
 
+-- half h of those that are held, with the error of its word; it is ready where there is such a word
 abbrev pub held_parcel : Prefetch → ℕ → Parcel
 held_parcel f h = record {
   ready = nat_lt (h / 2) f.buf_count;
@@ -55,6 +68,7 @@ head_of f = record { first = held_parcel f (f.head_pc / 2 % 2); second = held_pa
 abbrev pub next_addr : Prefetch → ℕ
 next_addr f = if f.f_fresh then f.head_pc / 4 * 4 else (f.f_addr / 4 * 4 + 4) % 2 ^ 32
 
+-- the address of the word that is requested, if one is
 unfoldable pub request_of : Prefetch → Option ℕ
 request_of f = if not f.f_busy && (f.f_fresh || nat_lt f.buf_count 3) then Some (next_addr f) else None
 
@@ -74,11 +88,13 @@ took n f = record (popped (nat_le 2 (f.head_pc / 2 % 2 + n)) f) { head_pc = (f.h
 
 -- ---- a cycle, from the parts
 
--- The answer of the cycle of a redirect is dropped, also where no request is outstanding. An answer in another cycle is held,
--- also where none is.
+-- The answer of the cycle of a redirect is dropped, also where no request is outstanding. An answer in another cycle
+-- is held, also where none is.
 abbrev pub fetch_after_answer : WordAns → Option ℕ → Prefetch → Prefetch
-fetch_after_answer ans redirect f = received ans.valid (f.f_drop || is_turn redirect) (entry_of ans.err ans.word) (turned redirect f)
+fetch_after_answer ans redirect f =
+    received ans.valid (f.f_drop || is_turn redirect) (entry_of ans.err ans.word) (turned redirect f)
 
+-- the fields after the answer and the request of a cycle
 abbrev pub fetch_after_request : WordAns → Option ℕ → Prefetch → Prefetch
 fetch_after_request ans redirect f = let g = fetch_after_answer ans redirect f in requested (request_of g) g
 

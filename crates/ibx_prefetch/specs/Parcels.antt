@@ -1,5 +1,6 @@
 -- The buffer as a queue of parcels, the rule of its requests, and the order of both over a run. Our own rule.
-use Rattle.std.specs.Prelude.{◌≡◌, ℕ, ◌+◌, ◌*◌, ◌/◌, ◌%◌, ◌^◌, ◌<◌, ◌≤◌, Bool, true, false, not, ◌&&◌, ◌||◌, ◌==◌, if◌then◌else◌, List, [], ◌∷◌, ◌++◌, take, drop, length, Option, Some, None}
+use Rattle.std.specs.Prelude.{◌≡◌, ℕ, ◌+◌, ◌*◌, ◌/◌, ◌%◌, ◌^◌, ◌<◌, ◌≤◌, Bool, true, false, not, ◌&&◌, ◌||◌, ◌==◌}
+use Rattle.std.specs.Prelude.{if◌then◌else◌, List, [], ◌∷◌, ◌++◌, take, drop, length, Option, Some, None}
 use Rattle.ibx_prefetch.specs.declared.buffer.Prefetch.{Prefetch}
 use Rattle.ibx_prefetch.specs.declared.buffer.WordAns.{WordAns}
 use Rattle.ibx_prefetch.specs.declared.buffer.Parcel.{Parcel}
@@ -42,9 +43,11 @@ parcels_of f = parcels_from f.head_pc (words_of f)
 abbrev pub came : Bool → Bool → ℕ → List ℕ
 came valid drops entry = if valid && not drops then entry ∷ [] else []
 
--- the parcels that can be taken in a cycle: of the words held and the one that comes, of which there is room for three; none at a redirect
+-- the parcels that can be taken in a cycle: of the words held and the one that comes, of which there is room for
+-- three; none at a redirect
 abbrev pub offered : WordAns → Option ℕ → Prefetch → List Parcel
-offered ans None f = parcels_from f.head_pc (take 3 (words_of f ++ came ans.valid f.f_drop (entry_of ans.err ans.word)))
+offered ans None f =
+    parcels_from f.head_pc (take 3 (words_of f ++ came ans.valid f.f_drop (entry_of ans.err ans.word)))
 offered ans (Some target) f = []
 
 -- a parcel that is ready
@@ -61,13 +64,14 @@ is_waiting ans f = f.f_busy && not ans.valid
 abbrev pub filled : WordAns → Prefetch → ℕ
 filled ans f = length (words_of f ++ came ans.valid f.f_drop (entry_of ans.err ans.word))
 
--- Nothing is requested while a request is outstanding. Else the first word after a redirect is the target's, requested at once,
--- and each further one follows the last, where fewer than three words are held.
+-- Nothing is requested while a request is outstanding. Else the first word after a redirect is the target's, requested
+-- at once, and each further one follows the last, where fewer than three words are held.
 pub record Issues (ans : WordAns) (redirect : Option ℕ) (f : Prefetch) (request : Option ℕ) : Type 0 where
   pub waits : is_waiting ans f ≡ true → request ≡ None
   pub turns : (target : ℕ) → is_waiting ans f ≡ false → redirect ≡ Some target → request ≡ Some (target / 4 * 4)
   pub begins : is_waiting ans f ≡ false → redirect ≡ None → f.f_fresh ≡ true → request ≡ Some (f.head_pc / 4 * 4)
-  pub follows : is_waiting ans f ≡ false → redirect ≡ None → f.f_fresh ≡ false → filled ans f < 3 → request ≡ Some ((f.f_addr / 4 * 4 + 4) % 2 ^ 32)
+  pub follows : is_waiting ans f ≡ false → redirect ≡ None → f.f_fresh ≡ false → filled ans f < 3
+      → request ≡ Some ((f.f_addr / 4 * 4 + 4) % 2 ^ 32)
   pub full : is_waiting ans f ≡ false → redirect ≡ None → f.f_fresh ≡ false → 3 ≤ filled ans f → request ≡ None
 
 -- ---- the order over a run
@@ -80,11 +84,13 @@ place f k = (f.head_pc / 4 * 4 + 4 * k) % 2 ^ 32
 abbrev pub awaited : Bool → Bool → ℕ
 awaited busy drops = if busy && not drops then 1 else 0
 
+-- how many words are held or awaited
 abbrev pub asked : Prefetch → ℕ
 asked f = f.buf_count + awaited f.f_busy f.f_drop
 
--- Each word that is held is what answers for its address, in the order of addresses from the next parcel's on, and the word that was
--- requested last is the last of those held or awaited. `words` is what answers for each address, with its error in bit 32.
+-- Each word that is held is what answers for its address, in the order of addresses from the next parcel's on, and the
+-- word that was requested last is the last of those held or awaited. `words` is what answers for each address, with
+-- its error in bit 32.
 pub record IsInOrder (words : ℕ → ℕ) (f : Prefetch) : Type 0 where
   pub held : (k : ℕ) → k < f.buf_count → held_word f k ≡ words (place f k)
   pub room : asked f ≤ 3
@@ -95,7 +101,8 @@ pub record IsInOrder (words : ℕ → ℕ) (f : Prefetch) : Type 0 where
 
 -- an answer that isn't dropped is that of the word that is outstanding
 abbrev pub AnswersFor : (ℕ → ℕ) → WordAns → Option ℕ → Prefetch → Type 0
-AnswersFor words ans redirect f = ans.valid ≡ true → (f.f_drop || is_turn redirect) ≡ false → (f.f_busy ≡ true) × (entry_of ans.err ans.word ≡ words f.f_addr)
+AnswersFor words ans redirect f = ans.valid ≡ true → (f.f_drop || is_turn redirect) ≡ false
+    → (f.f_busy ≡ true) × (entry_of ans.err ans.word ≡ words f.f_addr)
 
 -- the parcel at an address
 abbrev pub parcel_by : (ℕ → ℕ) → ℕ → Parcel
@@ -108,9 +115,12 @@ pub record OffersFrom (words : ℕ → ℕ) (pc : ℕ) (head : Head) : Type 0 wh
 
 -- whatever answers for each address, the head shows the parcels in order, and a cycle keeps the order
 abbrev pub ShowsInOrder : WordAns → Prefetch → Head → Type 0
-ShowsInOrder ans f head = (words : ℕ → ℕ) → IsWithin f → IsInOrder words f → AnswersFor words ans None f → OffersFrom words f.head_pc head
+ShowsInOrder ans f head =
+    (words : ℕ → ℕ) → IsWithin f → IsInOrder words f → AnswersFor words ans None f → OffersFrom words f.head_pc head
 
+-- whatever answers for each address, a cycle of ordered words, of which no more parcels are taken than are offered,
+-- leaves them in order
 abbrev pub KeepsOrder : WordAns → Option ℕ → ℕ → Prefetch → Prefetch → Type 0
 KeepsOrder ans redirect taken before after =
-    (words : ℕ → ℕ) → IsWithin before → IsInOrder words before → AnswersFor words ans redirect before → taken ≤ 2 → taken ≤ length (offered ans redirect before)
-    → IsInOrder words after
+    (words : ℕ → ℕ) → IsWithin before → IsInOrder words before → AnswersFor words ans redirect before → taken ≤ 2
+    → taken ≤ length (offered ans redirect before) → IsInOrder words after

@@ -9,7 +9,8 @@ pub struct Prefetch {
     pub f_busy: bool,
     /// The next word request is the first after a redirect.
     pub f_fresh: bool,
-    /// The outstanding request is of before the last redirect, and its answer is dropped.
+    /// The outstanding request is of before the last redirect, and its answer is dropped. Where none is outstanding,
+    /// the mark is lost at the end of the cycle.
     pub f_drop: bool,
     /// The byte address of the last word that was requested. A run has multiples of 4 here.
     pub f_addr: u32,
@@ -151,7 +152,10 @@ impl Prefetch {
         ensures within { IsWithin self.now → IsWithin result }
     {
         if !ans.valid {
-            *self
+            Prefetch {
+                f_drop: self.f_drop && self.f_busy,
+                ..*self
+            }
         } else if dropped {
             Prefetch {
                 f_busy: false,

@@ -64,12 +64,20 @@ impl Turn {
 // Steps the buffer from reset. What is shown says nothing in the cycle of a redirect.
 fn check(rt: &impl Abort, entry: u32, turns: &[Turn]) -> Prefetch {
     let mut unit = Prefetch::reset(entry);
-    for turn in turns {
+    for (cycle, turn) in turns.iter().enumerate() {
         let Head { first, second } = unit.head(&turn.answer);
         if turn.redirect.is_none() {
-            assert_eq!(rt; (ready(first), ready(second)), turn.shown);
+            assert_eq!(rt;
+                (ready(first), ready(second)),
+                turn.shown,
+                "at cycle {cycle}"
+            );
         }
-        assert_eq!(rt; unit.request(&turn.answer, turn.redirect), turn.request);
+        assert_eq!(rt;
+            unit.request(&turn.answer, turn.redirect),
+            turn.request,
+            "at cycle {cycle}"
+        );
         unit.advance(&turn.answer, turn.redirect, turn.taken);
     }
     unit
@@ -143,7 +151,7 @@ fn error_of_a_word(rt: HostRuntime) {
     assert!(rt; !unit.head(&word(0)).first.err);
 }
 
-// States that no run reaches: an answer to a full buffer, and addresses that aren't aligned.
+// States that no run reaches: an answer to a full buffer, addresses that aren't aligned, and a mark without a request.
 #[test]
 fn states_of_no_run(rt: HostRuntime) {
     let full = Prefetch {
@@ -177,4 +185,10 @@ fn states_of_no_run(rt: HostRuntime) {
         ..one
     };
     assert_eq!(rt; last.request(&SILENT, None), Some(0));
+    let mut marked = Prefetch {
+        f_drop: true,
+        ..after
+    };
+    marked.advance(&SILENT, None, 0);
+    assert_eq!(rt; marked, after);
 }

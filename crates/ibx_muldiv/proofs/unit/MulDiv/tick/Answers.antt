@@ -10,10 +10,12 @@ pub step-requires : goal.step-requires
 step-requires c = rw c.unpack.ensures (omega (arith, c.requires, left_of-seen c.args.self.now))
 
 pub pack-requires-clause-left : goal.pack-requires-clause-left
-pack-requires-clause-left c = rw (c.step.ensures, c.unpack.ensures) (sized_step (seen c.args.self.now) (sized_fields c.args.self.now)).left
+pack-requires-clause-left c =
+    rw (c.step.ensures, c.unpack.ensures) (sized_step (seen c.args.self.now) (sized_fields c.args.self.now)).left
 
 pub pack-requires-clause-pace : goal.pack-requires-clause-pace
-pack-requires-clause-pace c = rw (c.step.ensures, c.unpack.ensures) (sized_step (seen c.args.self.now) (sized_fields c.args.self.now)).pace
+pack-requires-clause-pace c =
+    rw (c.step.ensures, c.unpack.ensures) (sized_step (seen c.args.self.now) (sized_fields c.args.self.now)).pace
 
 fields-are : goal.returns-clause-fields
 unfolding tick_of
@@ -27,4 +29,5 @@ returns-clause-left c = rw (fields-are c) (left_of-tick c.args.self.now c.requir
 
 pub returns-clause-promise : goal.returns-clause-promise
 returns-clause-promise c =
-    λ value f. subst (λ (m : MulDiv). Finishes m (left_of m) value) (sym (fields-are c)) (tick_finishes c.args.self.now value c.requires f)
+    λ value f. subst (λ (m : MulDiv). Finishes m (left_of m) value) (sym (fields-are c))
+    (tick_finishes c.args.self.now value c.requires f)
