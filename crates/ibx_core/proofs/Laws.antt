@@ -1,10 +1,12 @@
--- The laws of a cycle, for every value of the fields and the wires: unused words and grants have no effect on the wires out, what is
--- read is put out, and the alerts are those of their causes.
+-- The laws of a cycle, for every value of the fields and the wires: unused words and grants have no effect on the wires
+-- out, what is read is put out, and the alerts are those of their causes.
 use Rattle.std.proofs.Common.{◌≡◌, ℕ, ◌+◌, ◌*◌, Bool, true, false, refl, ◌∙◌, ap}
 use Rattle.std.specs.Prelude.{not, ◌&&◌, ◌||◌, if◌then◌else◌, ◌%◌, ◌/◌, ◌==◌}
 use Rattle.ibx_icache.specs.WordPort.{is_bad_tag, is_bad_word, matches}
 use Rattle.ibx_core.specs.declared.state.State.{State}
-use Rattle.ibx_core.specs.Core.{IsSameUsed, alerts_of, core_next, core_out, cycle_of, cycle_seen, cycle_with, gives, heard, is_bus, is_internal, is_minor, leaves, looks, out_by, out_with, port_of, reads_in, reads_of, takes0, takes1}
+use Rattle.ibx_core.specs.Core.{IsSameUsed, alerts_of, core_next, core_out, cycle_of, cycle_seen, cycle_with, gives}
+use Rattle.ibx_core.specs.Core.{heard, is_bus, is_internal, is_minor, leaves, looks, out_by, out_with, port_of}
+use Rattle.ibx_core.specs.Core.{reads_in, reads_of, takes0, takes1}
 use Rattle.ibx_core.specs.Fields.{bit}
 use Rattle.ibx_core.specs.Sights.{sight_of, sight_with}
 use Rattle.ibx_core.specs.Wires.{InWires}
@@ -18,20 +20,25 @@ used false false e u v h = refl
 used true false e u v h = absurd (cc)
 used false true e u v h = absurd (cc)
 
+-- a test of a word that is used
 one_word : (l : Bool) (m : ℕ → Bool) (s t : ℕ) → (l ≡ true → s ≡ t) → (l && m s) ≡ (l && m t)
 one_word true m s t h = ap m (h refl)
 one_word false m s t h = refl
 
-two_words : (l : Bool) (m : ℕ → Bool) (s t u v : ℕ) → (l ≡ true → s ≡ t) → (l ≡ true → u ≡ v) → (l && (not (m s) && m u)) ≡ (l && (not (m t) && m v))
+-- a test of two words that are used
+two_words : (l : Bool) (m : ℕ → Bool) (s t u v : ℕ) → (l ≡ true → s ≡ t) → (l ≡ true → u ≡ v)
+    → (l && (not (m s) && m u)) ≡ (l && (not (m t) && m v))
 two_words true m s t u v h k = λ n. not (m (h refl n)) && m (k refl n)
 two_words false m s t u v h k = refl
 
+-- inputs that are equal but for unused words are heard the same
 pub same_heard : (x : State) (i j : InWires) → IsSameUsed x i j → heard x i ≡ heard x j
 unfolding heard
 same_heard x i j h =
     let at : ℕ → Bool = λ (tag : ℕ). matches tag x.words.c_addr in
     let first : takes0 x.words i.tag0 ≡ takes0 x.words j.tag0 = one_word (looks x.words) at i.tag0 j.tag0 h.tag0 in
-    let second : takes1 x.words i.tag0 i.tag1 ≡ takes1 x.words j.tag0 j.tag1 = two_words (looks x.words) at i.tag0 j.tag0 i.tag1 j.tag1 h.tag0 h.tag1 in
+    let second : takes1 x.words i.tag0 i.tag1 ≡ takes1 x.words j.tag0 j.tag1 =
+    two_words (looks x.words) at i.tag0 j.tag0 i.tag1 j.tag1 h.tag0 h.tag1 in
     let irsp = used i.irsp_valid j.irsp_valid h.irsp_valid i.irsp_word j.irsp_word h.irsp_word in
     let drsp = used i.drsp_valid j.drsp_valid h.drsp_valid i.drsp_word j.drsp_word h.drsp_word in
     let tag0 = used (looks x.words) (looks x.words) refl i.tag0 j.tag0 h.tag0 in
@@ -57,20 +64,25 @@ same_heard x i j h =
       mul = h.mul t;
     }
 
+-- so the wires out are equal
 pub unused_out : (x : State) (i j : InWires) → IsSameUsed x i j → core_out x i ≡ core_out x j
 unfolding core_out
 unused_out x i j h = ap (gives x) (same_heard x i j h)
 
+-- and the fields after the cycle
 pub unused_next : (x : State) (i j : InWires) → IsSameUsed x i j → core_next x i ≡ core_next x j
 unfolding core_next
 unused_next x i j h = ap (leaves x) (same_heard x i j h)
 
 -- ---- grants and reads
 
-pub ungranted : (x : State) (i : InWires) (igrant dgrant : Bool) → core_out x (record i { igrant = igrant; dgrant = dgrant }) ≡ core_out x i
+-- the wires out don't depend on the grants
+pub ungranted : (x : State) (i : InWires) (igrant dgrant : Bool)
+    → core_out x (record i { igrant = igrant; dgrant = dgrant }) ≡ core_out x i
 unfolding core_out heard gives out_by port_of alerts_of cycle_of cycle_seen cycle_with sight_of sight_with
 ungranted x i igrant dgrant = refl
 
+-- what is read is put out
 pub reading : (x : State) (i : InWires) → reads_in (core_out x i) ≡ reads_of x
 unfolding core_out gives out_by out_with
 reading x i = refl
@@ -78,31 +90,44 @@ reading x i = refl
 -- ---- alerts
 
 -- a data word counts where its way matches
-bad_by : (b0 b1 m0 m1 : Bool) (d : ℕ → Bool) (d0 d1 : ℕ) → ((b0 || (m0 && d (if m0 then d0 else 0))) || (b1 || (not m0 && m1 && d (if (not m0 && m1) then d1 else 0)))) ≡ ((b0 || (m0 && d d0)) || (b1 || (not m0 && m1 && d d1)))
+bad_by : (b0 b1 m0 m1 : Bool) (d : ℕ → Bool) (d0 d1 : ℕ)
+    → ((b0 || (m0 && d (if m0 then d0 else 0))) || (b1 || (not m0 && m1 && d (if (not m0 && m1) then d1 else 0))))
+    ≡ ((b0 || (m0 && d d0)) || (b1 || (not m0 && m1 && d d1)))
 bad_by b0 b1 true m1 d d0 d1 = refl
 bad_by b0 b1 false true d d0 d1 = refl
 bad_by b0 b1 false false d d0 d1 = refl
 
-looked_by : (l : Bool) (b m d : ℕ → Bool) (t0 t1 d0 d1 : ℕ) → (l && ((b (if l then t0 else 0) || (m (if l then t0 else 0) && d (if (l && m t0) then d0 else 0))) || (b (if l then t1 else 0) || (not (m (if l then t0 else 0)) && m (if l then t1 else 0) && d (if (l && (not (m t0) && m t1)) then d1 else 0))))) ≡ (l && ((b t0 || (m t0 && d d0)) || (b t1 || (not (m t0) && m t1 && d d1))))
+-- a lookup
+looked_by : (l : Bool) (b m d : ℕ → Bool) (t0 t1 d0 d1 : ℕ)
+    → (l && ((b (if l then t0 else 0) || (m (if l then t0 else 0) && d (if (l && m t0) then d0 else 0))) ||
+    (b (if l then t1 else 0) ||
+    (not (m (if l then t0 else 0)) && m (if l then t1 else 0) && d
+    (if (l && (not (m t0) && m t1)) then d1 else 0)))))
+    ≡ (l && ((b t0 || (m t0 && d d0)) || (b t1 || (not (m t0) && m t1 && d d1))))
 looked_by false b m d t0 t1 d0 d1 = refl
 looked_by true b m d t0 t1 d0 d1 = bad_by (b t0) (b t1) (m t0) (m t1) d d0 d1
 
+-- an answer
 answered_by : (valid : Bool) (d : ℕ → Bool) (word : ℕ) → (valid && d (if valid then word else 0)) ≡ (valid && d word)
 answered_by true d word = refl
 answered_by false d word = refl
 
+-- the gate changes no alert
 alerts_heard : (x : State) (i : InWires) → alerts_of x (heard x i) ≡ alerts_of x i
 unfolding alerts_of heard
 alerts_heard x i =
-    let minor = looked_by (looks x.words) is_bad_tag (λ (tag : ℕ). matches tag x.words.c_addr) is_bad_word i.tag0 i.tag1 i.data0 i.data1 in
+    let minor = looked_by (looks x.words) is_bad_tag
+    (λ (tag : ℕ). matches tag x.words.c_addr) is_bad_word i.tag0 i.tag1 i.data0 i.data1 in
     let fetch = answered_by i.irsp_valid is_bad_word i.irsp_word in
     let load = answered_by i.drsp_valid is_bad_word i.drsp_word in
     λ t. bit (minor t) + 2 * bit (is_internal x i) + 4 * bit (fetch t || load t)
 
+-- the alerts that are put out
 pub alerts_are : (x : State) (i : InWires) → (core_out x i).alerts ≡ alerts_of x i
 unfolding core_out gives out_by out_with
 alerts_are x i = alerts_heard x i
 
+-- each bit of a set of alerts
 first_bit : (a b c : Bool) → ((bit a + 2 * bit b + 4 * bit c) % 2 == 1) ≡ a
 first_bit true true true = refl
 first_bit true true false = refl
@@ -113,6 +138,7 @@ first_bit false true false = refl
 first_bit false false true = refl
 first_bit false false false = refl
 
+-- the same of INTERNAL
 second_bit : (a b c : Bool) → ((bit a + 2 * bit b + 4 * bit c) / 2 % 2 == 1) ≡ b
 second_bit true true true = refl
 second_bit true true false = refl
@@ -123,6 +149,7 @@ second_bit false true false = refl
 second_bit false false true = refl
 second_bit false false false = refl
 
+-- the same of BUS
 third_bit : (a b c : Bool) → ((bit a + 2 * bit b + 4 * bit c) / 4 == 1) ≡ c
 third_bit true true true = refl
 third_bit true true false = refl
@@ -133,14 +160,18 @@ third_bit false true false = refl
 third_bit false false true = refl
 third_bit false false false = refl
 
+-- MINOR has its cause
 pub minor_alert : (x : State) (i : InWires) → ((core_out x i).alerts % 2 == 1) ≡ is_minor x i
 unfolding alerts_of
 minor_alert x i = ap (λ (n : ℕ). n % 2 == 1) (alerts_are x i) ∙ first_bit (is_minor x i) (is_internal x i) (is_bus i)
 
+-- INTERNAL has its cause
 pub internal_alert : (x : State) (i : InWires) → ((core_out x i).alerts / 2 % 2 == 1) ≡ is_internal x i
 unfolding alerts_of
-internal_alert x i = ap (λ (n : ℕ). n / 2 % 2 == 1) (alerts_are x i) ∙ second_bit (is_minor x i) (is_internal x i) (is_bus i)
+internal_alert x i = ap (λ (n : ℕ). n / 2 % 2 == 1) (alerts_are x i)
+    ∙ second_bit (is_minor x i) (is_internal x i) (is_bus i)
 
+-- BUS has its cause
 pub bus_alert : (x : State) (i : InWires) → ((core_out x i).alerts / 4 == 1) ≡ is_bus i
 unfolding alerts_of
 bus_alert x i = ap (λ (n : ℕ). n / 4 == 1) (alerts_are x i) ∙ third_bit (is_minor x i) (is_internal x i) (is_bus i)

@@ -3,3 +3,6 @@ pub mod Tags
 pub mod EqualFields
 pub mod Widths
 pub mod Laws
+pub mod Registers
+pub mod Codewords
+pub mod OneBit

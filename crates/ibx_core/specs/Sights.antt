@@ -2,6 +2,7 @@
 -- Our own rule; the causes are those of the Privileged ISA 1.12, 3.1.15.
 use Rattle.std.specs.Prelude.{◌≡◌, ◌≤◌, IfSome, ℕ, ◌+◌, ◌%◌, ◌^◌, Bool, true, false, not, ◌&&◌, ◌||◌, ◌==◌, nat_lt, if◌then◌else◌, Option, Some, None, bit_and}
 use Rattle.ibx_isa.specs.declared.event.Access.{Access}
+use Rattle.ibx_isa.specs.Events.{IsStore}
 use Rattle.ibx_isa.specs.declared.bus.Rsp.{Rsp}
 use Rattle.ibx_isa.specs.declared.insn.Insn.{Insn}
 use Rattle.ibx_isa.specs.declared.insn.Insn.TheVariants.{Load, Store, MulDiv, Csr, Ecall, Ebreak, Mret, Wfi}
@@ -198,9 +199,10 @@ sight_of x i =
 
 -- ---- widths
 
--- the row is well formed, the access has at most four bytes, its request is one that a port takes, and what is held keeps its widths
+-- the row is well formed, the access has at most four bytes and is a store for a store's row alone, its request is one that a port takes, and what is held keeps its widths
 pub record IsSight (x : State) (g : Sight) : Type 0 where
   pub row : IfSome g.row IsWellFormed
   pub access : IfSome g.access (λ w. w.size ≤ 4)
+  pub stores : IsStore g.access → IsStore (access_by g.row g.a g.b)
   pub request : IsRequest g.ls.req
   pub held : (next : IdState) → g.turn ≡ Hold next → IsWithinWidths x.id → IsWithinWidths next

@@ -1,7 +1,7 @@
-ghost use Rattle.std.specs.Prelude.{◌≡◌, ◌<◌, IfSome, None, false};
-ghost use Rattle.ibx_isa.specs.WellFormed.{IsWellFormed};
+ghost use Rattle.std.specs.Prelude.{◌≡◌, ◌<◌, None, false};
 ghost use Rattle.ibx_csr.specs.Fields.{tick_of, with_regs};
 ghost use Rattle.ibx_core.specs.Effects.{IsEffect, IsOutcome, access_or, cause_fails, cause_or, effect_by, fails, interrupts, portion_fails, rests, retirement_of, retires, target_if, trap_value_of};
+ghost use Rattle.ibx_core.specs.Sights.{IsSight};
 
 use crate::outcome::Outcome;
 use crate::reads::stage_word;
@@ -59,7 +59,7 @@ fn retirement(x: &State, g: &Sight, o: &Outcome) -> Event
 
 #[tactic(auto, unfolding(crate::specs::Effects::retires))]
 fn retire(x: &State, g: &Sight, redirect: bool, o: &Outcome) -> Effect
-    requires { IsOutcome x.now o.now }
+    requires { IsOutcome x.now g.now o.now }
     ensures value { result ≡ retires x.now g.now redirect o.now }
     ensures fits { IsEffect x.now result }
 {
@@ -208,7 +208,7 @@ impl Effect {
     // What the turn leaves.
     #[tactic(auto, unfolding(crate::specs::Effects::effect_by))]
     pub fn of(x: &State, g: &Sight, lines: u32) -> Effect
-        requires { IfSome g.now.row IsWellFormed }
+        requires { IsSight x.now g.now }
         ensures value { result ≡ effect_by g.now.turn x.now g.now lines }
         ensures fits { IsEffect x.now result }
     {

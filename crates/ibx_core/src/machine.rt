@@ -1,4 +1,5 @@
-ghost use Rattle.std.specs.Prelude.{◌≡◌, ◌^◌, ◌<◌, ◌%◌, ◌/◌, ◌==◌, Bool, slice_index, slice_set};
+ghost use Rattle.std.specs.Prelude.{◌≡◌, ◌^◌, ◌<◌, ◌%◌, ◌/◌, ◌==◌, Bool, IfSome, slice_index, slice_set};
+ghost use Rattle.ibx_isa.specs.Events.{IsPrintable};
 ghost use Rattle.ibx_core.specs.Core.{IsSameUsed, core_next, core_out, is_bus, is_internal, is_minor, reads_in, reads_of};
 ghost use Rattle.ibx_core.specs.Fields.{fields, reset_of};
 ghost use Rattle.ibx_core.specs.Wires.{InWires};
@@ -83,6 +84,9 @@ impl Core {
         // Both addresses on the bus are those of words.
         ensures fetched { result.iaddr % 4 ≡ 0 }
         ensures accessed { result.daddr % 4 ≡ 0 }
+
+        // What is done has a printed line.
+        ensures printable { IfSome result.event IsPrintable }
 
         // Each alert exactly where it has its cause.
         ensures minor { (result.alerts % 2 == 1) ≡ is_minor self.now i.now }

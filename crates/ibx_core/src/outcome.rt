@@ -1,5 +1,4 @@
-ghost use Rattle.std.specs.Prelude.{◌≡◌, ◌+◌, ◌%◌, ◌^◌, ◌==◌, IfSome, None, Some, true, if◌then◌else◌};
-ghost use Rattle.ibx_isa.specs.WellFormed.{IsWellFormed};
+ghost use Rattle.std.specs.Prelude.{◌≡◌, ◌+◌, ◌%◌, ◌^◌, ◌==◌, None, Some, true, if◌then◌else◌};
 ghost use Rattle.ibx_isa.specs.Alu.{branch_of};
 ghost use Rattle.ibx_isa.specs.Portions.{gather_of};
 ghost use Rattle.ibx_csr.specs.Bits.{is_control_at as is_control_of};
@@ -8,6 +7,7 @@ ghost use Rattle.ibx_csr.specs.Values.{csr_read, trap_regs};
 ghost use Rattle.ibx_dummy.specs.Dummies.{seeded};
 ghost use Rattle.ibx_trap.specs.Traps.{leave_of};
 ghost use Rattle.ibx_core.specs.Effects.{IsOutcome, access_or, csr_outcome, csr_value, csr_written, following as following_of, outcome_by, plain_outcome};
+ghost use Rattle.ibx_core.specs.Sights.{IsSight};
 
 use crate::sight::Sight;
 use crate::state::State;
@@ -191,11 +191,11 @@ fn left(csrs: &Csrs) -> Csrs
 
 impl Outcome {
     // The outcome of the row.
-    #[tactic(auto, unfolding(crate::specs::Effects::outcome_by))]
+    #[tactic(auto, unfolding(crate::specs::Effects::outcome_by, crate::specs::Sights::access_by))]
     pub fn of(x: &State, g: &Sight, lines: u32) -> Outcome
-        requires { IfSome g.now.row IsWellFormed }
+        requires { IsSight x.now g.now }
         ensures value { result ≡ outcome_by g.now.row x.now g.now lines }
-        ensures fits { IsOutcome x.now result }
+        ensures fits { IsOutcome x.now g.now result }
     {
         let next = following(&x.id);
         match g.row {

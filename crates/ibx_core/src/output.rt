@@ -1,4 +1,5 @@
 ghost use Rattle.std.specs.Prelude.{◌≡◌, ◌≢◌, ◌<◌, ◌^◌, ◌%◌, ◌==◌, IfSome};
+ghost use Rattle.ibx_isa.specs.Events.{IsPrintable};
 ghost use Rattle.ibx_icache.specs.WordPort.{AreCodewords, is_bad_word, out_of};
 ghost use Rattle.ibx_icache.specs.Rules.{IsOutput};
 ghost use Rattle.ibx_core.specs.Core.{IsCycle, alerts_of, core_out, gives, is_bus, is_flipped as is_flipped_of, is_internal, is_minor, is_write, out_with, port_of, reads_of, tag_ways, tag_word, write_register, write_word};
@@ -108,6 +109,7 @@ impl State {
         ensures value { result ≡ gives self.now i.now }
         ensures fetched { result.iaddr % 4 ≡ 0 }
         ensures accessed { result.daddr % 4 ≡ 0 }
+        ensures printable { IfSome result.event IsPrintable }
     {
         let c = Cycle::of(self, i);
         let port = self.port_out(i, &c);
@@ -122,6 +124,7 @@ impl State {
         ensures value { result ≡ core_out self.now i.now }
         ensures fetched { result.iaddr % 4 ≡ 0 }
         ensures accessed { result.daddr % 4 ≡ 0 }
+        ensures printable { IfSome result.event IsPrintable }
     {
         self.driven(&self.heard(i))
     }
@@ -139,6 +142,7 @@ fn wired(port: &CacheOut, alerts: u8, reads: &Reads, c: &Cycle, x: &State) -> Ou
     ensures value { result ≡ out_with port.now alerts reads.now c.now }
     ensures fetched { port.now.bus.addr % 4 ≡ 0 → result.iaddr % 4 ≡ 0 }
     ensures accessed { result.daddr % 4 ≡ 0 }
+    ensures printable { IfSome result.event IsPrintable }
 {
     let req = c.sight.ls.req;
     Out {

@@ -1,4 +1,5 @@
 ghost use Rattle.std.specs.Prelude.{◌≡◌, ◌≤◌, ◌<◌, ◌^◌, IfSome, Some, if◌then◌else◌};
+ghost use Rattle.ibx_isa.specs.Events.{IsStore};
 ghost use Rattle.ibx_isa.specs.WellFormed.{IsWellFormed};
 ghost use Rattle.ibx_isa.specs.Wires.{IsRequest};
 ghost use Rattle.ibx_csr.specs.Values.{csr_can_write};
@@ -224,6 +225,7 @@ fn access_of(real: bool, row: Option<Insn>, a: u32, b: u32) -> Option<Access>
     requires { IfSome row IsWellFormed }
     ensures value { result ≡ access_if real row a b }
     ensures size { IfSome result (λ w. w.size ≤ 4) }
+    ensures stores { IsStore result → IsStore (access_by row a b) }
 {
     if real { access(row, a, b) } else { None }
 }
@@ -269,6 +271,7 @@ fn seen(
 ) -> Sight
     requires row { IfSome row IsWellFormed }
     requires size { IfSome access (λ w. w.size ≤ 4) }
+    requires stores { IsStore access → IsStore (access_by row a b) }
     ensures value { result ≡ sight_with row a b access cause x.now i.now }
     ensures fits { IsSight x.now result }
 {
