@@ -2,8 +2,9 @@
 use Rattle.std.proofs.Common.{◌≡◌, ℕ, Bool, true, false, not, inl, inr, refl, ap, ◌∙◌}
 use Rattle.std.specs.Prelude.{◌&&◌, ◌||◌, if◌then◌else◌}
 use Rattle.std.proofs.lemmas.Bool.{cases_Bool, and_parts, and_from, or_parts, or_cases, or_left, or_right}
-use Rattle.ibx_flips.specs.declared.wires.In.{In}
-use Rattle.ibx_flips.specs.Core.{Parts, bad_word, bad_tag_word, heard, hears_bad, takes0, takes1}
+use Rattle.ibx_core.specs.Wires.{InWires as In}
+use Rattle.ibx_icache.specs.WordPort.{is_bad_tag, is_bad_word}
+use Rattle.ibx_flips.specs.Core.{Parts, heard, hears_bad, takes0, takes1}
 use Rattle.ibx_flips.specs.Flips.{InMarks, uses_marked}
 use Rattle.ibx_flips.proofs.Apart.{WordApart}
 
@@ -22,33 +23,57 @@ module _ (a b c d e f g h : Bool) where
   -- then their disjunction does
   any_of_eight : OneOf → (a || (b || (c || (d || (e || (f || (g || h))))))) ≡ true
   any_of_eight (first x) = or_left a (b || (c || (d || (e || (f || (g || h)))))) x
-  any_of_eight (second x) = or_right a (b || (c || (d || (e || (f || (g || h)))))) (or_left b (c || (d || (e || (f || (g || h))))) x)
-  any_of_eight (third x) = or_right a (b || (c || (d || (e || (f || (g || h)))))) (or_right b (c || (d || (e || (f || (g || h))))) (or_left c (d || (e || (f || (g || h)))) x))
-  any_of_eight (fourth x) = or_right a (b || (c || (d || (e || (f || (g || h)))))) (or_right b (c || (d || (e || (f || (g || h))))) (or_right c (d || (e || (f || (g || h)))) (or_left d (e || (f || (g || h))) x)))
-  any_of_eight (fifth x) = or_right a (b || (c || (d || (e || (f || (g || h)))))) (or_right b (c || (d || (e || (f || (g || h))))) (or_right c (d || (e || (f || (g || h)))) (or_right d (e || (f || (g || h))) (or_left e (f || (g || h)) x))))
-  any_of_eight (sixth x) = or_right a (b || (c || (d || (e || (f || (g || h)))))) (or_right b (c || (d || (e || (f || (g || h))))) (or_right c (d || (e || (f || (g || h)))) (or_right d (e || (f || (g || h))) (or_right e (f || (g || h)) (or_left f (g || h) x)))))
-  any_of_eight (seventh x) = or_right a (b || (c || (d || (e || (f || (g || h)))))) (or_right b (c || (d || (e || (f || (g || h))))) (or_right c (d || (e || (f || (g || h)))) (or_right d (e || (f || (g || h))) (or_right e (f || (g || h)) (or_right f (g || h) (or_left g h x))))))
-  any_of_eight (eighth x) = or_right a (b || (c || (d || (e || (f || (g || h)))))) (or_right b (c || (d || (e || (f || (g || h))))) (or_right c (d || (e || (f || (g || h)))) (or_right d (e || (f || (g || h))) (or_right e (f || (g || h)) (or_right f (g || h) (or_right g h x))))))
+  any_of_eight (second x) =
+      or_right a (b || (c || (d || (e || (f || (g || h)))))) (or_left b (c || (d || (e || (f || (g || h))))) x)
+  any_of_eight (third x) =
+      or_right a (b || (c || (d || (e || (f || (g || h))))))
+      (or_right b (c || (d || (e || (f || (g || h))))) (or_left c (d || (e || (f || (g || h)))) x))
+  any_of_eight (fourth x) =
+      or_right a (b || (c || (d || (e || (f || (g || h))))))
+      (or_right b (c || (d || (e || (f || (g || h)))))
+      (or_right c (d || (e || (f || (g || h)))) (or_left d (e || (f || (g || h))) x)))
+  any_of_eight (fifth x) =
+      or_right a (b || (c || (d || (e || (f || (g || h))))))
+      (or_right b (c || (d || (e || (f || (g || h)))))
+      (or_right c (d || (e || (f || (g || h))))
+      (or_right d (e || (f || (g || h))) (or_left e (f || (g || h)) x))))
+  any_of_eight (sixth x) =
+      or_right a (b || (c || (d || (e || (f || (g || h))))))
+      (or_right b (c || (d || (e || (f || (g || h)))))
+      (or_right c (d || (e || (f || (g || h))))
+      (or_right d (e || (f || (g || h))) (or_right e (f || (g || h)) (or_left f (g || h) x)))))
+  any_of_eight (seventh x) =
+      or_right a (b || (c || (d || (e || (f || (g || h))))))
+      (or_right b (c || (d || (e || (f || (g || h)))))
+      (or_right c (d || (e || (f || (g || h))))
+      (or_right d (e || (f || (g || h)))
+      (or_right e (f || (g || h)) (or_right f (g || h) (or_left g h x))))))
+  any_of_eight (eighth x) =
+      or_right a (b || (c || (d || (e || (f || (g || h))))))
+      (or_right b (c || (d || (e || (f || (g || h)))))
+      (or_right c (d || (e || (f || (g || h))))
+      (or_right d (e || (f || (g || h)))
+      (or_right e (f || (g || h)) (or_right f (g || h) (or_right g h x))))))
 
 module _ {S : Type 0} (p : Parts S) where
   -- two inputs with the same flags and grants, whose marked words are bad ones in the second
   pub record InApart (x : InMarks) (i j : In) : Type 0 where
     pub irsp_valid : j.irsp_valid ≡ i.irsp_valid
     pub irsp_err : j.irsp_err ≡ i.irsp_err
-    pub irsp_word : WordApart bad_word x.irsp i.irsp_word j.irsp_word
+    pub irsp_word : WordApart is_bad_word x.irsp i.irsp_word j.irsp_word
     pub irsp_live : x.irsp ≡ true → j.irsp_valid ≡ true
     pub drsp_valid : j.drsp_valid ≡ i.drsp_valid
     pub drsp_err : j.drsp_err ≡ i.drsp_err
-    pub drsp_word : WordApart bad_word x.drsp i.drsp_word j.drsp_word
+    pub drsp_word : WordApart is_bad_word x.drsp i.drsp_word j.drsp_word
     pub drsp_live : x.drsp ≡ true → j.drsp_valid ≡ true
     pub igrant : j.igrant ≡ i.igrant
     pub dgrant : j.dgrant ≡ i.dgrant
-    pub rega : WordApart bad_word x.rega i.rega j.rega
-    pub regb : WordApart bad_word x.regb i.regb j.regb
-    pub tag0 : WordApart bad_tag_word x.tag0 i.tag0 j.tag0
-    pub tag1 : WordApart bad_tag_word x.tag1 i.tag1 j.tag1
-    pub data0 : WordApart bad_word x.data0 i.data0 j.data0
-    pub data1 : WordApart bad_word x.data1 i.data1 j.data1
+    pub rega : WordApart is_bad_word x.rega i.rega j.rega
+    pub regb : WordApart is_bad_word x.regb i.regb j.regb
+    pub tag0 : WordApart is_bad_tag x.tag0 i.tag0 j.tag0
+    pub tag1 : WordApart is_bad_tag x.tag1 i.tag1 j.tag1
+    pub data0 : WordApart is_bad_word x.data0 i.data0 j.data0
+    pub data1 : WordApart is_bad_word x.data1 i.data1 j.data1
     pub lines : j.lines ≡ i.lines
     pub mul : j.mul ≡ i.mul
 
@@ -57,24 +82,30 @@ module _ {S : Type 0} (p : Parts S) where
   same_word bad false a c w e = w
   same_word bad true a c w e = cc
 
+  -- a marked word
   marked_word : (bad : ℕ → Bool) (x : Bool) (a c : ℕ) → WordApart bad x a c → x ≡ true → bad c ≡ true
   marked_word bad true a c w e = w
   marked_word bad false a c w e = cc
 
   -- a word that is used where b holds
-  same_if : (bad : ℕ → Bool) (b x : Bool) (a c : ℕ) → WordApart bad x a c → (b && x) ≡ false → (if b then c else 0) ≡ (if b then a else 0)
+  same_if : (bad : ℕ → Bool) (b x : Bool) (a c : ℕ) → WordApart bad x a c → (b && x) ≡ false
+      → (if b then c else 0) ≡ (if b then a else 0)
   same_if bad false x a c w e = refl
   same_if bad true x a c w e = same_word bad x a c w e
 
   -- a test of an unmarked word, where it is used
-  same_test : (bad : ℕ → Bool) (b x : Bool) (test : ℕ → Bool) (a c : ℕ) → WordApart bad x a c → (b && x) ≡ false → (b && test c) ≡ (b && test a)
+  same_test : (bad : ℕ → Bool) (b x : Bool) (test : ℕ → Bool) (a c : ℕ) → WordApart bad x a c → (b && x) ≡ false
+      → (b && test c) ≡ (b && test a)
   same_test bad false x test a c w e = refl
   same_test bad true x test a c w e = ap test (same_word bad x a c w e)
 
-  same_tests : (bad : ℕ → Bool) (b x y : Bool) (test : ℕ → Bool) (a c d f : ℕ) → WordApart bad x a c → (b && x) ≡ false → WordApart bad y d f → (b && y) ≡ false
+  -- the same tests
+  same_tests : (bad : ℕ → Bool) (b x y : Bool) (test : ℕ → Bool) (a c d f : ℕ) → WordApart bad x a c
+      → (b && x) ≡ false → WordApart bad y d f → (b && y) ≡ false
       → (b && (not (test c) && test f)) ≡ (b && (not (test a) && test d))
   same_tests bad false x y test a c d f w e v g = refl
-  same_tests bad true x y test a c d f w e v g = λ t. not (test (same_word bad x a c w e t)) && test (same_word bad y d f v g t)
+  same_tests bad true x y test a c d f w e v g =
+      λ t. not (test (same_word bad x a c w e t)) && test (same_word bad y d f v g t)
 
   -- a marked word that is used is a used bad word
   used_if : (bad : ℕ → Bool) (b x : Bool) (a c : ℕ) → WordApart bad x a c → (b && x) ≡ true → (b && bad c) ≡ true
@@ -105,20 +136,24 @@ module _ {S : Type 0} (p : Parts S) where
       record { irsp = a.0; drsp = b.0; rega = c.0; regb = d.0; tag0 = f.0; tag1 = g.0; data0 = h.0; data1 = h.1 }
 
   -- where no used word is marked, the core hears the same
-  pub heard_same : (x : InMarks) (s : S) (i j : In) → InApart x i j → uses_marked p x s i ≡ false → heard p s j ≡ heard p s i
+  pub heard_same : (x : InMarks) (s : S) (i j : In) → InApart x i j → uses_marked p x s i ≡ false
+      → heard p s j ≡ heard p s i
   unfolding heard
   heard_same x s i j d e =
       let u = unmarked x s i e in
-      let irsp = same_word bad_word x.irsp i.irsp_word j.irsp_word d.irsp_word u.irsp in
-      let drsp = same_word bad_word x.drsp i.drsp_word j.drsp_word d.drsp_word u.drsp in
-      let rega = same_word bad_word x.rega i.rega j.rega d.rega u.rega in
-      let regb = same_word bad_word x.regb i.regb j.regb d.regb u.regb in
-      let tag0 = same_if bad_tag_word (p.looks s) x.tag0 i.tag0 j.tag0 d.tag0 u.tag0 in
-      let tag1 = same_if bad_tag_word (p.looks s) x.tag1 i.tag1 j.tag1 d.tag1 u.tag1 in
-      let take0 = same_test bad_tag_word (p.looks s) x.tag0 (p.matches s) i.tag0 j.tag0 d.tag0 u.tag0 in
-      let take1 = same_tests bad_tag_word (p.looks s) x.tag0 x.tag1 (p.matches s) i.tag0 j.tag0 i.tag1 j.tag1 d.tag0 u.tag0 d.tag1 u.tag1 in
-      let data0 = ap (λ (b : Bool). if b then j.data0 else 0) take0 ∙ same_if bad_word (takes0 p s i.tag0) x.data0 i.data0 j.data0 d.data0 u.data0 in
-      let data1 = ap (λ (b : Bool). if b then j.data1 else 0) take1 ∙ same_if bad_word (takes1 p s i.tag0 i.tag1) x.data1 i.data1 j.data1 d.data1 u.data1 in
+      let irsp = same_word is_bad_word x.irsp i.irsp_word j.irsp_word d.irsp_word u.irsp in
+      let drsp = same_word is_bad_word x.drsp i.drsp_word j.drsp_word d.drsp_word u.drsp in
+      let rega = same_word is_bad_word x.rega i.rega j.rega d.rega u.rega in
+      let regb = same_word is_bad_word x.regb i.regb j.regb d.regb u.regb in
+      let tag0 = same_if is_bad_tag (p.looks s) x.tag0 i.tag0 j.tag0 d.tag0 u.tag0 in
+      let tag1 = same_if is_bad_tag (p.looks s) x.tag1 i.tag1 j.tag1 d.tag1 u.tag1 in
+      let take0 = same_test is_bad_tag (p.looks s) x.tag0 (p.matches s) i.tag0 j.tag0 d.tag0 u.tag0 in
+      let take1 = same_tests is_bad_tag (p.looks s) x.tag0 x.tag1
+      (p.matches s) i.tag0 j.tag0 i.tag1 j.tag1 d.tag0 u.tag0 d.tag1 u.tag1 in
+      let data0 = ap (λ (b : Bool). if b then j.data0 else 0) take0
+      ∙ same_if is_bad_word (takes0 p s i.tag0) x.data0 i.data0 j.data0 d.data0 u.data0 in
+      let data1 = ap (λ (b : Bool). if b then j.data1 else 0) take1
+      ∙ same_if is_bad_word (takes1 p s i.tag0 i.tag1) x.data1 i.data1 j.data1 d.data1 u.data1 in
       λ t. record {
         irsp_valid = d.irsp_valid t;
         irsp_err = d.irsp_err t;
@@ -142,20 +177,21 @@ module _ {S : Type 0} (p : Parts S) where
 
   -- one of the used words is bad
   data Hears (s : S) (j : In) : Type 0 where
-    irsp : (j.irsp_valid && bad_word j.irsp_word) ≡ true → Hears s j
-    drsp : (j.drsp_valid && bad_word j.drsp_word) ≡ true → Hears s j
-    rega : bad_word j.rega ≡ true → Hears s j
-    regb : bad_word j.regb ≡ true → Hears s j
-    tag0 : (p.looks s && bad_tag_word j.tag0) ≡ true → Hears s j
-    tag1 : (p.looks s && bad_tag_word j.tag1) ≡ true → Hears s j
-    data0 : (takes0 p s j.tag0 && bad_word j.data0) ≡ true → Hears s j
-    data1 : (takes1 p s j.tag0 j.tag1 && bad_word j.data1) ≡ true → Hears s j
+    irsp : (j.irsp_valid && is_bad_word j.irsp_word) ≡ true → Hears s j
+    drsp : (j.drsp_valid && is_bad_word j.drsp_word) ≡ true → Hears s j
+    rega : is_bad_word j.rega ≡ true → Hears s j
+    regb : is_bad_word j.regb ≡ true → Hears s j
+    tag0 : (p.looks s && is_bad_tag j.tag0) ≡ true → Hears s j
+    tag1 : (p.looks s && is_bad_tag j.tag1) ≡ true → Hears s j
+    data0 : (takes0 p s j.tag0 && is_bad_word j.data0) ≡ true → Hears s j
+    data1 : (takes1 p s j.tag0 j.tag1 && is_bad_word j.data1) ≡ true → Hears s j
 
   -- then the core hears a bad word
   hears : (s : S) (j : In) → Hears s j → hears_bad p s j ≡ true
   unfolding hears_bad
-  hears s j x = any_of_eight (j.irsp_valid && bad_word j.irsp_word) (j.drsp_valid && bad_word j.drsp_word) (bad_word j.rega) (bad_word j.regb) (p.looks s && bad_tag_word j.tag0) (p.looks s && bad_tag_word j.tag1)
-      (takes0 p s j.tag0 && bad_word j.data0) (takes1 p s j.tag0 j.tag1 && bad_word j.data1) (elim x [
+  hears s j x = any_of_eight (j.irsp_valid && is_bad_word j.irsp_word) (j.drsp_valid && is_bad_word j.drsp_word)
+      (is_bad_word j.rega) (is_bad_word j.regb) (p.looks s && is_bad_tag j.tag0) (p.looks s && is_bad_tag j.tag1)
+      (takes0 p s j.tag0 && is_bad_word j.data0) (takes1 p s j.tag0 j.tag1 && is_bad_word j.data1) (elim x [
         | irsp e ↦ first e
         | drsp e ↦ second e
         | rega e ↦ third e
@@ -167,19 +203,23 @@ module _ {S : Type 0} (p : Parts S) where
       ])
 
   -- a data word is used: the tags are the same, since a changed one would be heard
-  used_lane : (x : InMarks) (s : S) (i j : In) → InApart x i j → ((takes0 p s i.tag0 && x.data0) || (takes1 p s i.tag0 i.tag1 && x.data1)) ≡ true → Hears s j
+  used_lane : (x : InMarks) (s : S) (i j : In) → InApart x i j
+      → ((takes0 p s i.tag0 && x.data0) || (takes1 p s i.tag0 i.tag1 && x.data1)) ≡ true → Hears s j
   used_lane x s i j d e =
       elim (cases_Bool (p.looks s && x.tag0)) [
-        | inl t0 ↦ tag0 (used_if bad_tag_word (p.looks s) x.tag0 i.tag0 j.tag0 d.tag0 t0)
+        | inl t0 ↦ tag0 (used_if is_bad_tag (p.looks s) x.tag0 i.tag0 j.tag0 d.tag0 t0)
         | inr n0 ↦ elim (cases_Bool (p.looks s && x.tag1)) [
-          | inl t1 ↦ tag1 (used_if bad_tag_word (p.looks s) x.tag1 i.tag1 j.tag1 d.tag1 t1)
+          | inl t1 ↦ tag1 (used_if is_bad_tag (p.looks s) x.tag1 i.tag1 j.tag1 d.tag1 t1)
           | inr n1 ↦ elim (or_cases (takes0 p s i.tag0 && x.data0) (takes1 p s i.tag0 i.tag1 && x.data1) e) [
             | inl a ↦
-                let take = same_test bad_tag_word (p.looks s) x.tag0 (p.matches s) i.tag0 j.tag0 d.tag0 n0 in
-                data0 (ap (λ (b : Bool). b && bad_word j.data0) take ∙ used_if bad_word (takes0 p s i.tag0) x.data0 i.data0 j.data0 d.data0 a)
+                let take = same_test is_bad_tag (p.looks s) x.tag0 (p.matches s) i.tag0 j.tag0 d.tag0 n0 in
+                data0 (ap (λ (b : Bool). b && is_bad_word j.data0) take
+                ∙ used_if is_bad_word (takes0 p s i.tag0) x.data0 i.data0 j.data0 d.data0 a)
             | inr a ↦
-                let take = same_tests bad_tag_word (p.looks s) x.tag0 x.tag1 (p.matches s) i.tag0 j.tag0 i.tag1 j.tag1 d.tag0 n0 d.tag1 n1 in
-                data1 (ap (λ (b : Bool). b && bad_word j.data1) take ∙ used_if bad_word (takes1 p s i.tag0 i.tag1) x.data1 i.data1 j.data1 d.data1 a)
+                let take = same_tests is_bad_tag (p.looks s) x.tag0 x.tag1
+                (p.matches s) i.tag0 j.tag0 i.tag1 j.tag1 d.tag0 n0 d.tag1 n1 in
+                data1 (ap (λ (b : Bool). b && is_bad_word j.data1) take
+                ∙ used_if is_bad_word (takes1 p s i.tag0 i.tag1) x.data1 i.data1 j.data1 d.data1 a)
           ]
         ]
       ]
@@ -189,17 +229,19 @@ module _ {S : Type 0} (p : Parts S) where
   unfolding uses_marked
   used_hears x s i j d e =
       elim (or_cases x.irsp _ e) [
-        | inl a ↦ irsp (and_from j.irsp_valid (bad_word j.irsp_word) (d.irsp_live a) (marked_word bad_word x.irsp i.irsp_word j.irsp_word d.irsp_word a))
+        | inl a ↦ irsp (and_from j.irsp_valid (is_bad_word j.irsp_word) (d.irsp_live a)
+            (marked_word is_bad_word x.irsp i.irsp_word j.irsp_word d.irsp_word a))
         | inr e1 ↦ elim (or_cases x.drsp _ e1) [
-          | inl a ↦ drsp (and_from j.drsp_valid (bad_word j.drsp_word) (d.drsp_live a) (marked_word bad_word x.drsp i.drsp_word j.drsp_word d.drsp_word a))
+          | inl a ↦ drsp (and_from j.drsp_valid (is_bad_word j.drsp_word) (d.drsp_live a)
+              (marked_word is_bad_word x.drsp i.drsp_word j.drsp_word d.drsp_word a))
           | inr e2 ↦ elim (or_cases x.rega _ e2) [
-            | inl a ↦ rega (marked_word bad_word x.rega i.rega j.rega d.rega a)
+            | inl a ↦ rega (marked_word is_bad_word x.rega i.rega j.rega d.rega a)
             | inr e3 ↦ elim (or_cases x.regb _ e3) [
-              | inl a ↦ regb (marked_word bad_word x.regb i.regb j.regb d.regb a)
+              | inl a ↦ regb (marked_word is_bad_word x.regb i.regb j.regb d.regb a)
               | inr e4 ↦ elim (or_cases (p.looks s && x.tag0) _ e4) [
-                | inl a ↦ tag0 (used_if bad_tag_word (p.looks s) x.tag0 i.tag0 j.tag0 d.tag0 a)
+                | inl a ↦ tag0 (used_if is_bad_tag (p.looks s) x.tag0 i.tag0 j.tag0 d.tag0 a)
                 | inr e5 ↦ elim (or_cases (p.looks s && x.tag1) _ e5) [
-                  | inl a ↦ tag1 (used_if bad_tag_word (p.looks s) x.tag1 i.tag1 j.tag1 d.tag1 a)
+                  | inl a ↦ tag1 (used_if is_bad_tag (p.looks s) x.tag1 i.tag1 j.tag1 d.tag1 a)
                   | inr e6 ↦ used_lane x s i j d e6
                 ]
               ]

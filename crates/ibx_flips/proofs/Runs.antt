@@ -1,5 +1,6 @@
 -- Runs before and after the flip; from a relation that a step keeps, or else an alert soon, to the bound.
-use Rattle.std.proofs.Common.{Option, ◌≡◌, ◌≢◌, ◌⊎◌, ℕ, zero, suc, ◌+◌, ◌-◌, ◌≤◌, ◌<◌, Bool, true, false, not, Some, None, inl, inr, refl, ap, subst, sym, ◌∙◌, arith}
+use Rattle.std.proofs.Common.{Option, ◌≡◌, ◌≢◌, ◌⊎◌, ℕ, zero, suc, ◌+◌, ◌-◌, ◌≤◌, ◌<◌, Bool, true, false, not, Some}
+use Rattle.std.proofs.Common.{None, inl, inr, refl, ap, subst, sym, ◌∙◌, arith}
 use Rattle.std.specs.Prelude.{◌==◌, if◌then◌else◌}
 use Rattle.std.proofs.lemmas.Bool.{cases_lt, ne_eqb, eq-eqb, not-true, not_from_true}
 use Rattle.ibx_flips.specs.Core.{Parts}
@@ -7,7 +8,8 @@ use Rattle.ibx_flips.specs.System.{Whole, Place, next, settle, output_of, same_b
 use Rattle.ibx_plan.specs.declared.site.Site.{Site}
 use Rattle.ibx_plan.specs.declared.site.Site.TheVariants as site
 use Rattle.ibx_plan.specs.declared.site.Flip.{Flip}
-use Rattle.ibx_flips.specs.Flips.{Noticed, delay_flip, flip, place_flip, made, run, before_step, differs, alarms}
+use Rattle.ibx_flips.specs.Flips.{Bounded, Noticed, delay_flip, flip, place_flip, made, run, before_step, parted}
+use Rattle.ibx_flips.specs.Flips.{differs, alarms, first_from}
 use Rattle.ibx_flips.proofs.Compare.{same_bus-refl}
 use Rattle.ibx_flips.proofs.Searches.{Answered, bounded}
 
@@ -17,16 +19,21 @@ module _ {S : Type 0} (p : Parts S) where
   unfolding next settle
   cycle_after w = refl
 
-  answer_cycle : (b : Bool) (e f g : Place) → f.cycle ≡ e.cycle → g.cycle ≡ e.cycle → (if b then f else g).cycle ≡ e.cycle
+  -- so does a flip of an answer, by its port
+  answer_cycle : (b : Bool) (e f g : Place) → f.cycle ≡ e.cycle → g.cycle ≡ e.cycle
+      → (if b then f else g).cycle ≡ e.cycle
   answer_cycle true e f g x y = x
   answer_cycle false e f g x y = y
 
-  delay_cycle : (age oldest : Bool) (wire bit : ℕ) (w : Whole S) → (delay_flip p age oldest wire bit w).place.cycle ≡ w.place.cycle
+  -- and one of a delayed wire or the age
+  delay_cycle : (age oldest : Bool) (wire bit : ℕ) (w : Whole S)
+      → (delay_flip p age oldest wire bit w).place.cycle ≡ w.place.cycle
   delay_cycle true oldest wire bit w = refl
   delay_cycle false true wire bit w = refl
   delay_cycle false false wire bit w = refl
 
-  cycle_flipped : (x : Site) (w : Whole S) → (flip p x w).place.cycle ≡ w.place.cycle
+  -- and so each flip
+  pub cycle_flipped : (x : Site) (w : Whole S) → (flip p x w).place.cycle ≡ w.place.cycle
   unfolding flip place_flip
   cycle_flipped (site.Main field bit) w = refl
   cycle_flipped (site.Shadow field bit) w = refl
@@ -42,6 +49,7 @@ module _ {S : Type 0} (p : Parts S) where
   unmade : (f : Flip) (w : Whole S) → w.place.cycle ≢ f.cycle → made p (Some f) w ≡ w
   unmade f w ne = rw (ne_eqb w.place.cycle f.cycle ne) refl
 
+  -- in its cycle it is made
   now_made : (f : Flip) (w : Whole S) → w.place.cycle ≡ f.cycle → made p (Some f) w ≡ flip p f.site w
   now_made f w e = rw (eq-eqb w.place.cycle f.cycle e) refl
 
@@ -54,7 +62,8 @@ module _ {S : Type 0} (p : Parts S) where
       ∙ past f n (next p w) (omega (arith, cycle_after w))
 
   -- from the cycle of the flip on, the run is that of the flipped system
-  flipped_now : (f : Flip) (n : ℕ) (w : Whole S) → w.place.cycle ≡ f.cycle → before_step p w (Some f) n ≡ run p (flip p f.site w) None n
+  flipped_now : (f : Flip) (n : ℕ) (w : Whole S) → w.place.cycle ≡ f.cycle
+      → before_step p w (Some f) n ≡ run p (flip p f.site w) None n
   unfolding run
   flipped_now f zero w e = now_made f w e
   flipped_now f (suc n) w e =
@@ -62,7 +71,8 @@ module _ {S : Type 0} (p : Parts S) where
       ∙ past f n (next p (flip p f.site w)) (omega (arith, cycle_after (flip p f.site w), cycle_flipped f.site w))
 
   -- the run with the flip, c steps before it and from it on
-  pub ahead : (f : Flip) (n c : ℕ) (w : Whole S) → w.place.cycle + c ≡ f.cycle → n < c → before_step p w (Some f) n ≡ run p w None n
+  pub ahead : (f : Flip) (n c : ℕ) (w : Whole S) → w.place.cycle + c ≡ f.cycle → n < c
+      → before_step p w (Some f) n ≡ run p w None n
   unfolding run
   ahead f zero c w e lt = unmade f w (λ h. omega arith)
   ahead f (suc n) c w e lt =
@@ -70,22 +80,29 @@ module _ {S : Type 0} (p : Parts S) where
       ∙ ahead f n (c - 1) (next p w) (omega (arith, cycle_after w)) (omega arith)
 
   -- from the flip on
-  pub behind : (f : Flip) (c n : ℕ) (w : Whole S) → w.place.cycle + c ≡ f.cycle → before_step p w (Some f) (c + n) ≡ run p (flip p f.site (run p w None c)) None n
+  pub behind : (f : Flip) (c n : ℕ) (w : Whole S) → w.place.cycle + c ≡ f.cycle
+      → before_step p w (Some f) (c + n) ≡ run p (flip p f.site (run p w None c)) None n
   unfolding run
-  behind f zero n w e = subst (λ k. before_step p w (Some f) k ≡ run p (flip p f.site w) None n) (let k : n ≡ zero + n = omega arith in k) (flipped_now f n w (omega arith))
+  behind f zero n w e =
+      subst (λ k. before_step p w (Some f) k ≡ run p (flip p f.site w) None n) (let k : n ≡ zero + n = omega arith in
+      k) (flipped_now f n w (omega arith))
   behind f (suc c) n w e =
-      subst (λ k. before_step p w (Some f) k ≡ run p (flip p f.site (run p (next p w) None c)) None n) (let k : suc (c + n) ≡ suc c + n = omega arith in k)
-      (ap (λ (v : Whole S). before_step p (next p v) (Some f) (c + n)) (unmade f w (λ h. omega arith)) ∙ behind f c n (next p w) (omega (arith, cycle_after w)))
+      subst (λ k. before_step p w (Some f) k ≡ run p (flip p f.site (run p (next p w) None c)) None n)
+      (let k : suc (c + n) ≡ suc c + n = omega arith in k)
+      (ap (λ (v : Whole S). before_step p (next p v) (Some f) (c + n)) (unmade f w (λ h. omega arith))
+      ∙ behind f c n (next p w) (omega (arith, cycle_after w)))
 
   -- a run without a flip, in two parts
   pub cleanly : (c n : ℕ) (w : Whole S) → run p w None (c + n) ≡ run p (run p w None c) None n
   unfolding run
   cleanly zero n w = subst (λ k. run p w None k ≡ run p w None n) (let k : n ≡ zero + n = omega arith in k) refl
   cleanly (suc c) n w =
-      subst (λ k. run p w None k ≡ run p (run p (next p w) None c) None n) (let k : suc (c + n) ≡ suc c + n = omega arith in k) (cleanly c n (next p w))
+      subst (λ k. run p w None k ≡ run p (run p (next p w) None c) None n) (let k : suc (c + n) ≡ suc c + n =
+      omega arith in k) (cleanly c n (next p w))
 
   -- what each step keeps, a run keeps
-  pub kept_run : (I : Whole S → Type 0) → ((w : Whole S) → I w → I (next p w)) → (n : ℕ) (w : Whole S) → I w → I (run p w None n)
+  pub kept_run : (I : Whole S → Type 0) → ((w : Whole S) → I w → I (next p w)) → (n : ℕ) (w : Whole S) → I w
+      → I (run p w None n)
   unfolding run
   kept_run I h zero w i = i
   kept_run I h (suc n) w i = kept_run I h n (next p w) (h w i)
@@ -101,6 +118,7 @@ module _ {S : Type 0} (p : Parts S) where
   made_by true f w = cycle_flipped f.site w
   made_by false f w = refl
 
+  -- a flip that may be made counts no cycle
   cycle_made : (f : Option Flip) (w : Whole S) → (made p f w).place.cycle ≡ w.place.cycle
   cycle_made None w = refl
   cycle_made (Some f) w = made_by (w.place.cycle == f.cycle) f w
@@ -128,7 +146,8 @@ module _ {S : Type 0} (p : Parts S) where
 
   -- under such a relation a difference of the bus has an alert at most two cycles later
   pub reach : (R : Whole S → Whole S → Type 0) → Keeps R → (n : ℕ) (w v : Whole S) → R w v
-      → not (same_bus (output_of p (run p w None n)) (output_of p (run p v None n))) ≡ true → (a : ℕ) × (a ≤ n + 2) × (alarm p (run p v None a) ≡ true)
+      → not (same_bus (output_of p (run p w None n)) (output_of p (run p v None n))) ≡ true
+      → (a : ℕ) × (a ≤ n + 2) × (alarm p (run p v None a) ≡ true)
   unfolding run
   reach R keeps zero w v r e =
       elim (keeps w v r) [
@@ -144,23 +163,29 @@ module _ {S : Type 0} (p : Parts S) where
   -- before the flip nothing differs
   pub same_ahead : (f : Flip) (n : ℕ) (w : Whole S) → w.place.cycle ≡ 0 → n < f.cycle → differs p w f n ≡ false
   same_ahead f n w e lt =
-      subst (λ (v : Whole S). not (same_bus (output_of p (run p w None n)) (output_of p v)) ≡ false) (sym (ahead f n f.cycle w (omega arith) lt))
-      (not_from_true (same_bus (output_of p (run p w None n)) (output_of p (run p w None n))) (same_bus-refl (output_of p (run p w None n))))
+      subst (λ (v : Whole S). not (same_bus (output_of p (run p w None n)) (output_of p v)) ≡ false)
+      (sym (ahead f n f.cycle w (omega arith) lt))
+      (not_from_true (same_bus (output_of p (run p w None n)) (output_of p (run p w None n)))
+      (same_bus-refl (output_of p (run p w None n))))
 
   -- from the flip on, by the two runs that begin there
   pub differs_behind : (f : Flip) (n : ℕ) (w : Whole S) → w.place.cycle ≡ 0
-      → differs p w f (f.cycle + n) ≡ not (same_bus (output_of p (run p (run p w None f.cycle) None n)) (output_of p (run p (flip p f.site (run p w None f.cycle)) None n)))
+      → differs p w f (f.cycle + n)
+      ≡ not (same_bus (output_of p (run p (run p w None f.cycle) None n))
+      (output_of p (run p (flip p f.site (run p w None f.cycle)) None n)))
   differs_behind f n w e =
       let clean = cleanly f.cycle n w in
       let faulty = behind f f.cycle n w (omega arith) in
       λ t. not (same_bus (output_of p (clean t)) (output_of p (faulty t)))
 
   -- so are the alerts
-  pub alarms_behind : (f : Flip) (n : ℕ) (w : Whole S) → w.place.cycle ≡ 0 → alarms p w f (f.cycle + n) ≡ alarm p (run p (flip p f.site (run p w None f.cycle)) None n)
+  pub alarms_behind : (f : Flip) (n : ℕ) (w : Whole S) → w.place.cycle ≡ 0
+      → alarms p w f (f.cycle + n) ≡ alarm p (run p (flip p f.site (run p w None f.cycle)) None n)
   alarms_behind f n w e = ap (alarm p) (behind f f.cycle n w (omega arith))
 
   -- each difference has its alert, where such a relation holds at the flip
-  answered : (f : Flip) (w : Whole S) → w.place.cycle ≡ 0 → (R : Whole S → Whole S → Type 0) → Keeps R → R (run p w None f.cycle) (flip p f.site (run p w None f.cycle))
+  answered : (f : Flip) (w : Whole S) → w.place.cycle ≡ 0 → (R : Whole S → Whole S → Type 0) → Keeps R
+      → R (run p w None f.cycle) (flip p f.site (run p w None f.cycle))
       → Answered (differs p w f) (alarms p w f)
   answered f w e R keeps r d h =
       elim (cases_lt d f.cycle) [
@@ -169,11 +194,20 @@ module _ {S : Type 0} (p : Parts S) where
             let n = d - f.cycle in
             let is : f.cycle + n ≡ d = omega arith in
             let there = subst (λ k. differs p w f k ≡ true) (sym is) h in
-            let x = reach R keeps n (run p w None f.cycle) (flip p f.site (run p w None f.cycle)) r (sym (differs_behind f n w e) ∙ there) in
+            let x = reach R keeps n (run p w None f.cycle) (flip p f.site (run p w None f.cycle)) r
+            (sym (differs_behind f n w e) ∙ there) in
             (f.cycle + x.0, omega (arith, x.1), alarms_behind f x.0 w e ∙ x.2)
       ]
 
+  -- two runs without a flip, under such a relation
+  pub noticed_from : (R : Whole S → Whole S → Type 0) → Keeps R → (w v : Whole S) → R w v
+      → (cycles : ℕ) → Bounded (first_from cycles (parted p w v) 0)
+      (first_from (cycles + 2) (λ n. alarm p (run p v None n)) 0)
+  noticed_from R keeps w v r cycles =
+      bounded cycles (parted p w v) (λ n. alarm p (run p v None n)) (λ d h. reach R keeps d w v r h)
+
   -- and so the flip is noticed
-  pub noticed_by : (f : Flip) (w : Whole S) → w.place.cycle ≡ 0 → (R : Whole S → Whole S → Type 0) → Keeps R → R (run p w None f.cycle) (flip p f.site (run p w None f.cycle))
+  pub noticed_by : (f : Flip) (w : Whole S) → w.place.cycle ≡ 0 → (R : Whole S → Whole S → Type 0) → Keeps R
+      → R (run p w None f.cycle) (flip p f.site (run p w None f.cycle))
       → (cycles : ℕ) → Noticed p w f cycles
   noticed_by f w e R keeps r cycles = bounded cycles (differs p w f) (alarms p w f) (answered f w e R keeps r)

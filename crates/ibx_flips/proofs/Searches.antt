@@ -1,5 +1,6 @@
 -- The least number that passes a test, and the bound.
-use Rattle.std.proofs.Common.{◌≡◌, ℕ, zero, suc, ◌+◌, ◌≤◌, ◌<◌, Bool, true, false, Option, Some, None, inl, inr, refl, ap, subst, sym, ◌∙◌, arith}
+use Rattle.std.proofs.Common.{◌≡◌, ℕ, zero, suc, ◌+◌, ◌≤◌, ◌<◌, Bool, true, false, Option, Some, None, inl, inr, refl}
+use Rattle.std.proofs.Common.{ap, subst, sym, ◌∙◌, arith}
 use Rattle.std.proofs.lemmas.Bool.{cases_eq, cases_Bool}
 use Rattle.ibx_flips.specs.Flips.{first_from, Bounded}
 
@@ -19,7 +20,13 @@ found (suc n) test t d e =
       | inl hit ↦
           let at : Some t ≡ Some d = sym (rw hit refl) ∙ e in
           let same : t ≡ d = cc in
-          record { passes = subst (λ (x : ℕ). test x ≡ true) same hit; late = omega arith; inside = omega arith; least = λ b low high. absurd (omega arith) }
+          record {
+            passes = subst (λ (x : ℕ). test x ≡ true) same hit;
+            late = omega arith;
+            inside =
+                omega arith;
+            least = λ b low high. absurd (omega arith);
+          }
       | inr miss ↦
           let rest : first_from n test (t + 1) ≡ Some d = sym (rw miss refl) ∙ e in
           let r = found n test (t + 1) d rest in
@@ -27,12 +34,14 @@ found (suc n) test t d e =
             passes = r.passes;
             late = omega (arith, r.late);
             inside = omega (arith, r.inside);
-            least = λ b low high. elim (cases_eq t b) [ inl same ↦ ap test (sym same) ∙ miss | inr other ↦ r.least b (omega arith) high ];
+            least = λ b low high.
+                elim (cases_eq t b) [ inl same ↦ ap test (sym same) ∙ miss | inr other ↦ r.least b (omega arith) high ];
           }
     ]
 
 -- a search that ends with none: no number passes
-pub none_found : (n : ℕ) (test : ℕ → Bool) (t : ℕ) → first_from n test t ≡ None → (b : ℕ) → t ≤ b → b < t + n → test b ≡ false
+pub none_found : (n : ℕ) (test : ℕ → Bool) (t : ℕ) → first_from n test t ≡ None → (b : ℕ) → t ≤ b → b < t + n
+    → test b ≡ false
 unfolding first_from
 none_found zero test t e b low high = absurd (omega arith)
 none_found (suc n) test t e b low high =
@@ -40,11 +49,16 @@ none_found (suc n) test t e b low high =
       | inl hit ↦ let at : Some t ≡ None = sym (rw hit refl) ∙ e in cc
       | inr miss ↦
           let rest : first_from n test (t + 1) ≡ None = sym (rw miss refl) ∙ e in
-          elim (cases_eq t b) [ inl same ↦ ap test (sym same) ∙ miss | inr other ↦ none_found n test (t + 1) rest b (omega arith) (omega arith) ]
+          elim (cases_eq t b) [
+            | inl same ↦ ap test (sym same)
+                ∙ miss
+            | inr other ↦ none_found n test (t + 1) rest b (omega arith) (omega arith)
+          ]
     ]
 
 -- a number that passes is not before the first one
-reached : (n : ℕ) (test : ℕ → Bool) (t a : ℕ) → t ≤ a → a < t + n → test a ≡ true → (b : ℕ) × (first_from n test t ≡ Some b) × (b ≤ a)
+reached : (n : ℕ) (test : ℕ → Bool) (t a : ℕ) → t ≤ a → a < t + n → test a ≡ true
+    → (b : ℕ) × (first_from n test t ≡ Some b) × (b ≤ a)
 unfolding first_from
 reached zero test t a low high e = absurd (omega arith)
 reached (suc n) test t a low high e =
@@ -68,7 +82,8 @@ abbrev pub Answered : (ℕ → Bool) → (ℕ → Bool) → Type 0
 Answered differs alarms = (d : ℕ) → differs d ≡ true → (a : ℕ) × (a ≤ d + 2) × (alarms a ≡ true)
 
 -- the bound, by the first difference
-bounded_by : (cycles : ℕ) (differs alarms : ℕ → Bool) → Answered differs alarms → (diff : Option ℕ) → first_from cycles differs 0 ≡ diff → Bounded diff (first_from (cycles + 2) alarms 0)
+bounded_by : (cycles : ℕ) (differs alarms : ℕ → Bool) → Answered differs alarms → (diff : Option ℕ)
+    → first_from cycles differs 0 ≡ diff → Bounded diff (first_from (cycles + 2) alarms 0)
 bounded_by cycles differs alarms h None e = tt
 bounded_by cycles differs alarms h (Some d) e =
     let f = found cycles differs 0 d e in
@@ -77,5 +92,6 @@ bounded_by cycles differs alarms h (Some d) e =
     bounded_at d (first_from (cycles + 2) alarms 0) (r.0, r.1, omega (arith, r.2, x.1))
 
 -- where each difference has its alert, the first alert is in time
-pub bounded : (cycles : ℕ) (differs alarms : ℕ → Bool) → Answered differs alarms → Bounded (first_from cycles differs 0) (first_from (cycles + 2) alarms 0)
+pub bounded : (cycles : ℕ) (differs alarms : ℕ → Bool) → Answered differs alarms
+    → Bounded (first_from cycles differs 0) (first_from (cycles + 2) alarms 0)
 bounded cycles differs alarms h = bounded_by cycles differs alarms h (first_from cycles differs 0) refl

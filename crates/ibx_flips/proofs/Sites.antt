@@ -11,14 +11,16 @@ use Rattle.ibx_flips.specs.System.{Place}
 use Rattle.ibx_flips.specs.Flips.{Codewords, Fits}
 
 -- the first of some ranges, and the others, where each number is in its range
-pub in_ranges : (r : Ranged) (more : List Ranged) → list_all is_within (r ∷ more) ≡ true → (r.first ≤ r.number) × (r.number < r.end) × (list_all is_within more ≡ true)
+pub in_ranges : (r : Ranged) (more : List Ranged) → list_all is_within (r ∷ more) ≡ true
+    → (r.first ≤ r.number) × (r.number < r.end) × (list_all is_within more ≡ true)
 in_ranges r more h =
     let a = and_parts _ _ h in
     let b = and_parts _ _ a.0 in
     (leb-true r.first r.number b.0, ltb-true r.number r.end b.1, a.1)
 
 -- there are six output words, the tag words third and fourth
-output_fits : (wire bit : ℕ) → bit < width_in outputs wire → (wire < 6) × (bit < (if (wire == 2) || (wire == 3) then 28 else 39))
+pub output_fits : (wire bit : ℕ) → bit < width_in outputs wire
+    → (wire < 6) × (bit < (if (wire == 2) || (wire == 3) then 28 else 39))
 unfolding outputs
 output_fits zero bit lt = (omega arith, lt)
 output_fits (suc zero) bit lt = (omega arith, lt)

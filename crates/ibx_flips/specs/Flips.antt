@@ -1,22 +1,32 @@
 -- Flips, runs with one flip, and what is promised of them.
-use Rattle.std.specs.Prelude.{◌≡◌, ℕ, zero, suc, ◌+◌, ◌-◌, ◌<◌, ◌≤◌, ◌^◌, Bool, true, false, not, ◌&&◌, ◌||◌, nat_le, ◌==◌, if◌then◌else◌, List, All, length, slice_index, slice_set, Option, Some, None, bit_xor}
+use Rattle.std.specs.Prelude.{◌≡◌, ℕ, zero, suc, ◌+◌, ◌-◌, ◌<◌, ◌≤◌, ◌^◌, Bool, true, false, not, ◌&&◌, ◌||◌, nat_le}
+use Rattle.std.specs.Prelude.{◌==◌, if◌then◌else◌, List, All, length, slice_index, slice_set, Option, Some, None}
+use Rattle.std.specs.Prelude.{bit_xor}
 use Rattle.ibx_isa.specs.declared.bus.Req.{Req}
 use Rattle.ibx_plan.specs.declared.site.Site.{Site}
 use Rattle.ibx_plan.specs.declared.site.Site.TheVariants as site
 use Rattle.ibx_plan.specs.declared.site.Flip.{Flip}
 use Rattle.ibx_bus.specs.Memory.{MemoryState, memory_flip, is_store, memory_has, index_of}
 use Rattle.ibx_bus.specs.Port.{answers, port_flip}
-use Rattle.ibx_flips.specs.declared.wires.In.{In}
-use Rattle.ibx_flips.specs.declared.wires.Out.{Out}
-use Rattle.ibx_flips.specs.Core.{Parts, bad_word, bad_tag_word, takes0, takes1}
-use Rattle.ibx_flips.specs.System.{Place, Whole, tag_index, line_index, set_of, half_of, look, writes_register, writes_way, igrant_of, dgrant_of, fetch_of, load_store_of, next, output_of, same_bus, alarm}
+use Rattle.ibx_core.specs.Wires.{InWires as In, OutWires as Out}
+use Rattle.ibx_icache.specs.WordPort.{is_bad_tag, is_bad_word}
+use Rattle.ibx_flips.specs.Core.{Parts, takes0, takes1}
+use Rattle.ibx_flips.specs.System.{Place, Whole, tag_index, line_index, set_of, half_of, look, writes_register}
+use Rattle.ibx_flips.specs.System.{writes_way, igrant_of, dgrant_of, fetch_of, load_store_of, next, output_of}
+use Rattle.ibx_flips.specs.System.{same_bus, alarm}
 
 -- whether the place is a word of the memories, the ports or the core's input
-abbrev pub IsWord : Site → Bool
-IsWord (site.Main field bit) = false
-IsWord (site.Shadow field bit) = false
-IsWord (site.Delay slot wire bit) = false
-IsWord _ = true
+abbrev pub is_word : Site → Bool
+is_word (site.Main field bit) = false
+is_word (site.Shadow field bit) = false
+is_word (site.Delay slot wire bit) = false
+is_word _ = true
+
+-- whether it is in the shadow, in a delayed pair or in the age
+abbrev pub is_side : Site → Bool
+is_side (site.Shadow field bit) = true
+is_side (site.Delay slot wire bit) = true
+is_side _ = false
 
 -- whether there is such a bit
 abbrev pub Fits : Site → Place → Type 0
@@ -38,7 +48,8 @@ place_flip (site.Reg n bit) e = record e { registers = with_flip e.registers n b
 place_flip (site.Tag set way bit) e = record e { tags = with_flip e.tags (tag_index set way) bit }
 place_flip (site.Line set way half bit) e = record e { lines = with_flip e.lines (line_index set way half) bit }
 place_flip (site.Output wire bit) e = record e { pending = Some (wire, bit) }
-place_flip (site.Answer port bit) e = if port == 0 then record e { iport = port_flip e.iport bit } else record e { dport = port_flip e.dport bit }
+place_flip (site.Answer port bit) e =
+    if port == 0 then record e { iport = port_flip e.iport bit } else record e { dport = port_flip e.dport bit }
 place_flip (site.Mem word bit) e = record e { memory = memory_flip e.memory word bit }
 place_flip _ e = e
 
@@ -59,12 +70,12 @@ module _ {S : Type 0} (p : Parts S) where
 -- 32 registers, 256 sets of two ways with two data words each, all words codewords, and no pending flip
 pub record Codewords (e : Place) : Type 0 where
   pub count : (length e.registers ≡ 32) × (length e.tags ≡ 512) × (length e.lines ≡ 1024)
-  pub registers : All (λ w. bad_word w ≡ false) e.registers
-  pub tags : All (λ w. bad_tag_word w ≡ false) e.tags
-  pub lines : All (λ w. bad_word w ≡ false) e.lines
-  pub memory : All (λ w. bad_word w ≡ false) e.memory.words
-  pub ianswer : bad_word e.iport.word ≡ false
-  pub danswer : bad_word e.dport.word ≡ false
+  pub registers : All (λ w. is_bad_word w ≡ false) e.registers
+  pub tags : All (λ w. is_bad_tag w ≡ false) e.tags
+  pub lines : All (λ w. is_bad_word w ≡ false) e.lines
+  pub memory : All (λ w. is_bad_word w ≡ false) e.memory.words
+  pub ianswer : is_bad_word e.iport.word ≡ false
+  pub danswer : is_bad_word e.dport.word ≡ false
   pub pending : e.pending ≡ None
 
 -- the least number from t on, among so many, that passes a test
@@ -74,6 +85,7 @@ first_from (suc n) test t = if test t then Some t else first_from n test (t + 1)
 
 -- ---- where the changed word and its copies are, and when they are used
 
+-- the words that are the changed one or a copy of it, by their kinds
 pub record Marks : Type 0 where
   pub register : Bool
   pub tag : Bool
@@ -93,13 +105,22 @@ pub record Spot : Type 0 where
 
 -- no word is changed
 abbrev pub no_marks : Marks
-no_marks = record { register = false; tag = false; line = false; shown = false; stored = false; icopy = false; dcopy = false }
+no_marks = record {
+  register = false;
+  tag = false;
+  line = false;
+  shown = false;
+  stored = false;
+  icopy = false;
+  dcopy = false;
+}
 
 -- the number of the word that a site names
 abbrev pub spot_of : Site → Spot
 spot_of (site.Reg n bit) = record { register = n; tag = 0; line = 0; wire = 0; word = 0 }
 spot_of (site.Tag set way bit) = record { register = 0; tag = tag_index set way; line = 0; wire = 0; word = 0 }
-spot_of (site.Line set way half bit) = record { register = 0; tag = 0; line = line_index set way half; wire = 0; word = 0 }
+spot_of (site.Line set way half bit) =
+    record { register = 0; tag = 0; line = line_index set way half; wire = 0; word = 0 }
 spot_of (site.Output wire bit) = record { register = 0; tag = 0; line = 0; wire = wire; word = 0 }
 spot_of (site.Mem word bit) = record { register = 0; tag = 0; line = 0; wire = 0; word = word }
 spot_of _ = record { register = 0; tag = 0; line = 0; wire = 0; word = 0 }
@@ -133,6 +154,19 @@ reads_word m r k = (memory_has m r.addr && not r.write) && (index_of m r.addr ==
 abbrev pub copy_after : Bool → Bool → Bool → MemoryState → Req → ℕ → Bool
 copy_after granted copy stored m r k = if granted then stored && reads_word m r k else copy
 
+-- a way's tag word, and a half of its data words, that an output writes
+abbrev pub puts_tag : Out → ℕ → ℕ → Bool
+puts_tag o way k = writes_way o.tways way && (tag_index o.tset way == k)
+
+-- the same of a half of its data words
+abbrev pub puts_line : Out → ℕ → ℕ → ℕ → Bool
+puts_line o way half k = writes_way o.dways way && (line_index o.tset way half == k)
+
+-- the word of RAM that a granted store writes whole
+abbrev pub stores_whole : Place → Out → ℕ → Bool
+stores_whole e o k =
+    (dgrant_of e o && is_store e.memory (load_store_of o)) && ((index_of e.memory o.daddr == k) && (o.dbe == 15))
+
 module _ {S : Type 0} (p : Parts S) where
   -- which words of the input are the changed one
   unfoldable pub in_marks : Spot → Marks → Place → S → InMarks
@@ -163,11 +197,11 @@ module _ {S : Type 0} (p : Parts S) where
   unfoldable pub place_marks : Spot → Marks → Place → Out → Marks
   place_marks k m e o = record {
     register = m.register && not (writes_register o && (o.rwn == k.register));
-    tag = (m.tag && not (writes_way o.tways 0 && (tag_index o.tset 0 == k.tag))) && not (writes_way o.tways 1 && (tag_index o.tset 1 == k.tag));
-    line = (((m.line && not (writes_way o.dways 0 && (line_index o.tset 0 0 == k.line))) && not (writes_way o.dways 0 && (line_index o.tset 0 1 == k.line)))
-        && not (writes_way o.dways 1 && (line_index o.tset 1 0 == k.line))) && not (writes_way o.dways 1 && (line_index o.tset 1 1 == k.line));
+    tag = (m.tag && not (puts_tag o 0 k.tag)) && not (puts_tag o 1 k.tag);
+    line = (((m.line && not (puts_line o 0 0 k.line)) && not (puts_line o 0 1 k.line)) && not (puts_line o 1 0 k.line))
+        && not (puts_line o 1 1 k.line);
     shown = false;
-    stored = m.stored && not ((dgrant_of e o && is_store e.memory (load_store_of o)) && ((index_of e.memory o.daddr == k.word) && (o.dbe == 15)));
+    stored = m.stored && not (stores_whole e o k.word);
     icopy = copy_after (igrant_of e o) m.icopy m.stored e.memory (fetch_of o) k.word;
     dcopy = copy_after (dgrant_of e o) m.dcopy m.stored e.memory (load_store_of o) k.word;
   }
@@ -192,6 +226,10 @@ module _ {S : Type 0} (p : Parts S) where
   abbrev pub before_step : Whole S → Option (Flip) → ℕ → Whole S
   before_step w f n = made f (run w f n)
 
+  -- whether the bus differs between two runs without a flip, n cycles from their starts
+  abbrev pub parted : Whole S → Whole S → ℕ → Bool
+  parted w v n = not (same_bus (output_of p (run w None n)) (output_of p (run v None n)))
+
   -- whether the bus differs between the run and the run with the flip, n cycles from the start
   abbrev pub differs : Whole S → Flip → ℕ → Bool
   differs w f n = not (same_bus (output_of p (before_step w None n)) (output_of p (before_step w (Some f) n)))
@@ -204,6 +242,7 @@ module _ {S : Type 0} (p : Parts S) where
   abbrev pub first_diff : Whole S → Flip → ℕ → Option ℕ
   first_diff w f cycles = first_from cycles (differs w f) 0
 
+  -- the first alert, looked for in two cycles more
   abbrev pub first_alert : Whole S → Flip → ℕ → Option ℕ
   first_alert w f cycles = first_from (cycles + 2) (alarms w f) 0
 
@@ -244,6 +283,18 @@ module _ {S : Type 0} (p : Parts S) where
   abbrev pub Noticed : Whole S → Flip → ℕ → Type 0
   Noticed w f cycles = Bounded (first_diff p w f cycles) (first_alert p w f cycles)
 
+  -- the same where any other core takes main's place before the step of a cycle; cycles are counted from there
+  abbrev pub ReplacementNoticed : Whole S → ℕ → S → ℕ → Type 0
+  ReplacementNoticed w cycle other cycles =
+      let clean = run p w None cycle in
+      let faulty : Whole S = record clean { main = other } in
+      Bounded (first_from cycles (parted p clean faulty) 0)
+      (first_from (cycles + 2) (λ n. alarm p (run p faulty None n)) 0)
+
+  -- a flip beside main and its words never changes the bus
+  abbrev pub Unseen : Whole S → Flip → Type 0
+  Unseen w f = is_side f.site ≡ true → (n : ℕ) → differs p w f n ≡ false
+
   -- the two runs agree before the first use, and there an alert comes
   abbrev pub AgreesTo : Whole S → Flip → ℕ → Option ℕ → Type 0
   AgreesTo w f cycles None = (n : ℕ) → n < cycles → differs p w f n ≡ false
@@ -251,4 +302,4 @@ module _ {S : Type 0} (p : Parts S) where
 
   -- a word's flip changes nothing on the bus before its first use, and is told there
   abbrev pub ToldByUse : Whole S → Flip → ℕ → Type 0
-  ToldByUse w f cycles = IsWord f.site ≡ true → AgreesTo w f cycles (first_use p w f cycles)
+  ToldByUse w f cycles = is_word f.site ≡ true → AgreesTo w f cycles (first_use p w f cycles)

@@ -1,18 +1,21 @@
 -- The state of the system, and its step.
-use Rattle.std.specs.Prelude.{ℕ, ◌+◌, ◌*◌, ◌/◌, ◌%◌, ◌^◌, min, Bool, false, not, ◌&&◌, ◌||◌, nat_le, ◌==◌, if◌then◌else◌, List, slice_index, slice_set, Option, Some, None, bit_xor}
+use Rattle.std.specs.Prelude.{ℕ, ◌+◌, ◌*◌, ◌/◌, ◌%◌, ◌^◌, min, Bool, false, not, ◌&&◌, ◌||◌, nat_le, ◌==◌}
+use Rattle.std.specs.Prelude.{if◌then◌else◌, List, slice_index, slice_set, Option, Some, None, bit_xor}
 use Rattle.ibx_isa.specs.declared.bus.Req.{Req}
-use Rattle.ibx_bus.specs.Memory.{MemoryState, memory_after}
+use Rattle.ibx_plan.specs.declared.entry.Change.{Change}
+use Rattle.ibx_plan.specs.Plan.{lines_at}
+use Rattle.ibx_bus.specs.Memory.{MemoryState, memory_after, stored_word}
 use Rattle.ibx_bus.specs.Port.{PortState, answers, grants, port_next}
-use Rattle.ibx_flips.specs.declared.wires.In.{In}
-use Rattle.ibx_flips.specs.declared.wires.Out.{Out}
-use Rattle.ibx_flips.specs.Core.{Parts, merged_word, Reads, agree, agree_bus, is_alert}
+use Rattle.ibx_core.specs.Wires.{InWires as In, OutWires as Out, agree, agree_bus}
+use Rattle.ibx_core.specs.declared.reads.Reads.{Reads}
+use Rattle.ibx_flips.specs.Core.{Parts, is_alert}
 
 -- ---- the system
 
--- what no step changes: the multiplier's kind, and the interrupt lines of each cycle
+-- what no step changes: the multiplier's kind, and the changes of the interrupt lines
 pub record Settings : Type 0 where
   pub mul : ℕ
-  pub lines : ℕ → ℕ
+  pub changes : List Change
 
 -- the words round the cores; the pending flip, by the number of an output word and a bit; the cycle's number
 pub record Place : Type 0 where
@@ -39,12 +42,15 @@ pub record Whole (S : Type 0) : Type 0 where
 abbrev pub set_of : ℕ → ℕ
 set_of line = line / 8 % 256
 
+-- the word of a line by its address
 abbrev pub half_of : ℕ → ℕ
 half_of line = line / 4 % 2
 
+-- the place of a tag word
 abbrev pub tag_index : ℕ → ℕ → ℕ
 tag_index set way = set * 2 + way
 
+-- the place of a data word
 abbrev pub line_index : ℕ → ℕ → ℕ → ℕ
 line_index set way half = (set * 2 + way) * 2 + half
 
@@ -67,7 +73,7 @@ shown e r = record {
   tag1 = slice_index e.tags (tag_index (set_of r.line) 1);
   data0 = slice_index e.lines (line_index (set_of r.line) 0 (half_of r.line));
   data1 = slice_index e.lines (line_index (set_of r.line) 1 (half_of r.line));
-  lines = e.settings.lines e.cycle;
+  lines = lines_at e.settings.changes e.cycle;
   mul = e.settings.mul;
 }
 
@@ -82,6 +88,7 @@ flip_wire wire bit i = record i {
   data1 = if wire == 5 then bit_xor i.data1 (2 ^ bit) else i.data1;
 }
 
+-- by the pending flip
 unfoldable pub changed : Option (ℕ × ℕ) → In → In
 changed None i = i
 changed (Some x) i = flip_wire x.0 x.1 i
@@ -90,6 +97,7 @@ changed (Some x) i = flip_wire x.0 x.1 i
 abbrev pub fetch_of : Out → Req
 fetch_of o = record { valid = o.ireq; write = false; be = (if o.ireq then 15 else 0); addr = o.iaddr; word = 0 }
 
+-- the request of the data port
 abbrev pub load_store_of : Out → Req
 load_store_of o = record { valid = o.dreq; write = o.dwe; be = o.dbe; addr = o.daddr; word = o.dword }
 
@@ -97,6 +105,7 @@ load_store_of o = record { valid = o.dreq; write = o.dwe; be = o.dbe; addr = o.d
 abbrev pub igrant_of : Place → Out → Bool
 igrant_of e o = grants o.ireq e.iport
 
+-- the same of the data port
 abbrev pub dgrant_of : Place → Out → Bool
 dgrant_of e o = grants o.dreq e.dport
 
@@ -116,22 +125,26 @@ writes_way ways way = ways / 2 ^ way % 2 == 1
 abbrev pub registers_after : List ℕ → Out → List ℕ
 registers_after words o = put_if (writes_register o) words o.rwn o.rwword
 
+-- the tags after a cycle
 abbrev pub tags_after : List ℕ → Out → List ℕ
-tags_after words o = put_if (writes_way o.tways 1) (put_if (writes_way o.tways 0) words (tag_index o.tset 0) o.tword) (tag_index o.tset 1) o.tword
+tags_after words o =
+    put_if (writes_way o.tways 1) (put_if (writes_way o.tways 0) words (tag_index o.tset 0) o.tword)
+    (tag_index o.tset 1) o.tword
 
+-- the data words of one way
 abbrev pub way_after : List ℕ → Out → ℕ → List ℕ
 way_after words o way =
-    put_if (writes_way o.dways way) (put_if (writes_way o.dways way) words (line_index o.tset way 0) o.dw0) (line_index o.tset way 1) o.dw1
+    put_if (writes_way o.dways way) (put_if (writes_way o.dways way) words (line_index o.tset way 0) o.dw0)
+    (line_index o.tset way 1) o.dw1
 
+-- the data words of both ways
 abbrev pub lines_after : List ℕ → Out → List ℕ
 lines_after words o = way_after (way_after words o 0) o 1
 
--- what a store leaves of a word, whole or merged
-abbrev pub stored_word : ℕ → ℕ → ℕ → ℕ
-stored_word enables old new = if enables == 15 then new else merged_word enables old new
-
+-- a store leaves a whole or a merged word
 abbrev pub store_if : Bool → List ℕ → ℕ → ℕ → ℕ → List ℕ
-store_if stores words i enables new = if stores then slice_set words i (stored_word enables (slice_index words i) new) else words
+store_if stores words i enables new =
+    if stores then slice_set words i (stored_word enables (slice_index words i) new) else words
 
 module _ {S : Type 0} (p : Parts S) where
   -- what a core is shown, before the grants
@@ -146,6 +159,7 @@ module _ {S : Type 0} (p : Parts S) where
   abbrev pub with_grants : Place → Out → In → In
   with_grants e o i = record i { igrant = igrant_of e o; dgrant = dgrant_of e o }
 
+  -- what main moves by, and what is delayed
   abbrev pub input : Place → S → In
   input e s = with_grants e (output e s) (look e s)
 
@@ -174,7 +188,7 @@ module _ {S : Type 0} (p : Parts S) where
     place = settle w.place (output w.place w.main);
   }
 
-  -- whether the comparator tells a difference: the shadow's output for the oldest input isn't the one that main gave then
+  -- whether the comparator tells a difference: the shadow's output for the oldest input isn't main's of then
   abbrev pub is_told : Whole S → Bool
   is_told w = nat_le 2 w.age && not (agree (p.gives w.shadow w.older.0) w.older.1)
 
