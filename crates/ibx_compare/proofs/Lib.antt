@@ -1,0 +1,6 @@
+pub mod Comparing
+pub mod Noticed
+pub mod Searching
+pub mod Sizes
+pub mod Telling
+pub mod Turns

@@ -1,0 +1,3 @@
+pub mod Drives
+pub mod Twins
+pub mod Verdicts

@@ -1,0 +1,4 @@
+pub mod Bits
+pub mod Delayed
+pub mod Images
+pub mod Sites

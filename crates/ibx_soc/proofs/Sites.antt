@@ -1,0 +1,34 @@
+-- What a site that fits says of its numbers.
+use Rattle.std.proofs.Common.{◌≡◌, ℕ, ◌<◌, true, [], ◌∷◌}
+use Rattle.ibx_plan.specs.Names.{fields, outputs, width_in, wires}
+use Rattle.ibx_plan.specs.Sites.{ranged, ranges, site_fits, slots}
+use Rattle.ibx_plan.specs.declared.site.Site.TheVariants as site
+use Rattle.ibx_flips.proofs.Sites.{in_ranges, output_fits}
+use Rattle.ibx_soc.specs.Seen.{PendingFits}
+use Rattle.std.specs.Prelude.{Some}
+
+-- the bit of a field of main
+pub main_bit : (n field bit : ℕ) → site_fits n (site.Main field bit) ≡ true → bit < width_in fields field
+unfolding site_fits ranges
+main_bit n field bit h = (in_ranges (ranged bit 0 (width_in fields field)) [] h).1
+
+-- the same of the shadow
+pub shadow_bit : (n field bit : ℕ) → site_fits n (site.Shadow field bit) ≡ true → bit < width_in fields field
+unfolding site_fits ranges
+shadow_bit n field bit h = (in_ranges (ranged bit 0 (width_in fields field)) [] h).1
+
+-- the slot of a delayed wire
+pub delay_slot : (n slot wire bit : ℕ) → site_fits n (site.Delay slot wire bit) ≡ true → slot < slots wire
+unfolding site_fits ranges
+delay_slot n slot wire bit h = (in_ranges (ranged slot 0 (slots wire)) (ranged bit 0 (width_in wires wire) ∷ []) h).1
+
+-- the bit of a delayed wire
+pub delay_bit : (n slot wire bit : ℕ) → site_fits n (site.Delay slot wire bit) ≡ true → bit < width_in wires wire
+unfolding site_fits ranges
+delay_bit n slot wire bit h =
+    (in_ranges (ranged bit 0 (width_in wires wire)) [] (in_ranges (ranged slot 0 (slots wire)) (ranged bit 0 (width_in wires wire) ∷ []) h).2).1
+
+-- the word and the bit of an output word
+pub pending_fits : (n wire bit : ℕ) → site_fits n (site.Output wire bit) ≡ true → PendingFits (Some (wire, bit))
+unfolding site_fits ranges
+pending_fits n wire bit h = output_fits wire bit (in_ranges (ranged bit 0 (width_in outputs wire)) [] h).1

@@ -1,0 +1,4 @@
+pub mod First
+pub mod Cycles
+pub mod Seen
+pub mod Widths
