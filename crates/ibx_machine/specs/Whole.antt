@@ -2,7 +2,8 @@
 use Rattle.std.specs.Prelude.{◌≡◌, ℕ, zero, suc, ◌+◌, ◌*◌, ◌<◌, ◌%◌, ◌^◌, false, map, slice_index, Option, Some, None, if◌then◌else◌}
 use Rattle.ibx_csr.specs.Fields.{values}
 use Rattle.ibx_elf.specs.Ram.{IsRamRange, IsInRam}
-use Rattle.ibx_time.specs.Settings.{Setup}
+use Rattle.ibx_elf.specs.Image.{image_byte}
+use Rattle.ibx_time.specs.Settings.{Setup, lines_in, settings_of}
 use Rattle.ibx_time.specs.History.{Story, history, told_below, open_item, with_item}
 use Rattle.ibx_time.specs.Memories.{memory_at}
 use Rattle.ibx_arch.specs.Memory.{image_memory, read_bytes}
@@ -27,6 +28,12 @@ pub record IsSetup (s : Setup) : Type 0 where
   pub ram : IsRamRange s.image.ram
   pub entry : IsInRam s.image.ram s.image.entry
   pub even : s.image.entry % 2 ≡ 0
+
+-- a setup whose image has bytes, and whose interrupt lines are words
+pub record IsPlaced (s : Setup) : Type 0 where
+  pub setup : IsSetup s
+  pub lines : (c : ℕ) → lines_in (settings_of s) c < 2 ^ 32
+  pub bytes : (addr : ℕ) → image_byte s.image addr < 256
 
 abbrev pub staged_in : IdState → Option Staged
 staged_in id = if id.valid then Some (record { kind = id.kind; pc = id.pc; word = id.word }) else None

@@ -1,0 +1,66 @@
+-- The system as it is opened is a first state of its setup.
+use Rattle.std.proofs.Common.{◌≡◌, ℕ, zero, suc, ◌+◌, ◌/◌, ◌^◌, ◌<◌, List, ◌∷◌, map, refl, ap, arith}
+use Rattle.std.specs.Prelude.{All, replicate}
+use Rattle.std.proofs.lemmas.List.Elements.{All-cons, All-nil}
+use Rattle.ibx_secded.specs.Code.{checks, column, columns, encode_of, numbers_of_weight, weight}
+use Rattle.ibx_elf.specs.Image.{Placed, image_byte, image_word}
+use Rattle.ibx_core.specs.Fields.{reset_of}
+use Rattle.ibx_core.specs.Wires.{quiet_in, quiet_out}
+use Rattle.ibx_time.specs.Settings.{Setup}
+use Rattle.ibx_machine.specs.System.{first_system, image_words}
+use Rattle.ibx_machine.specs.Whole.{IsPlaced}
+use Rattle.ibx_flips.specs.Core.{core_parts}
+use Rattle.ibx_flips.proofs.First.{codewords_at_reset, first_at_reset}
+use Rattle.ibx_soc.specs.First.{first, words_from}
+use Rattle.ibx_matching.specs.Projection.{IsStart, machine_system, opened, settings_in}
+use Rattle.ibx_matching.proofs.Fillings.{empty_tag}
+
+-- the codeword of 0
+empty_word : encode_of 32 7 0 ≡ 0x2a00000000
+unfolding encode_of checks column columns numbers_of_weight weight
+empty_word = refl
+
+-- the words of an image have 32 bits
+words_low : (image : Placed) → ((a : ℕ) → image_byte image a < 256) → (addr n : ℕ)
+    → All (λ v. v < 2 ^ 32) (words_from image addr n)
+unfolding words_from
+words_low image bytes addr zero = All-nil (λ v. v < 2 ^ 32)
+words_low image bytes addr (suc n) =
+    All-cons (λ v. v < 2 ^ 32) (image_word image addr) (words_from image (addr + 4) n)
+    (omega (arith, bytes addr, bytes (addr + 1), bytes (addr + 2), bytes (addr + 3)))
+    (words_low image bytes (addr + 4) n)
+
+-- and the memory has their codewords
+words_are : (image : Placed) (addr n : ℕ) → map (encode_of 32 7) (words_from image addr n) ≡ image_words image addr n
+unfolding words_from image_words
+words_are image addr zero = refl
+words_are image addr (suc n) =
+    ap (λ (l : List ℕ). encode_of 32 7 (image_word image addr) ∷ l) (words_are image (addr + 4) n)
+
+-- main with the words round it is the machine at reset
+first_is : (s : Setup) → machine_system (opened s) ≡ first_system s
+unfolding first first_system reset_of
+first_is s =
+    let words = words_are s.image s.image.ram.base (s.image.ram.size / 4) in
+    λ t. record (machine_system (opened s)) {
+      regs = replicate 32 (empty_word t);
+      tags = replicate 512 (empty_tag t);
+      lines = replicate 1024 (empty_word t);
+      mem = record { base = s.image.ram.base; words = words t };
+    }
+
+-- the system as it is opened
+pub starts : (s : Setup) → IsPlaced s → IsStart s (opened s)
+unfolding first
+starts s ok =
+    let base : ℕ = s.image.ram.base in
+    let words : List ℕ = words_from s.image base (s.image.ram.size / 4) in
+    let low : All (λ v. v < 2 ^ 32) words = words_low s.image ok.bytes base (s.image.ram.size / 4) in
+    record {
+      first =
+          first_at_reset core_parts (reset_of s.image.entry) (quiet_in, quiet_out) (quiet_in, quiet_out)
+          (opened s).place refl
+          (codewords_at_reset (settings_in s) words base s.plan.iwaits s.plan.dwaits low);
+      system = first_is s;
+      settings = refl;
+    }

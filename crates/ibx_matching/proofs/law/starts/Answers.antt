@@ -1,0 +1,5 @@
+use Rattle.ibx_matching.proofs.Reset.{starts}
+use Rattle.ibx_matching.proofs.law.starts.Goals as goal
+
+pub returns : goal.returns
+returns c = λ s ok. starts s ok

@@ -1,0 +1,37 @@
+-- What it means that a cycle of the core in code is a cycle of the machine of the time equations.
+use Rattle.std.specs.Prelude.{◌≡◌, ℕ, ◌^◌, ◌<◌, Bool, ◌||◌, List}
+use Rattle.ibx_icache.specs.declared.doing.Doing.TheVariants.{AwaitsSecond}
+use Rattle.ibx_icache.specs.declared.port.WordPort.{WordPort}
+use Rattle.ibx_icache.specs.declared.writes.Filling.{Filling}
+use Rattle.ibx_icache.specs.Doing.{doing_of}
+use Rattle.ibx_core.specs.declared.state.State.{State}
+use Rattle.ibx_core.specs.Core.{core_next, core_out, is_minor}
+use Rattle.ibx_core.specs.Wires.{InWires, OutWires}
+use Rattle.ibx_machine.specs.Core.{Out, core_next as machine_next, core_out as machine_out}
+use Rattle.ibx_machine.specs.System.{put_lines, put_tags}
+use Rattle.ibx_flips.specs.Core.{is_alert}
+use Rattle.ibx_flips.specs.System.{fetch_of, lines_after, load_store_of, registers_after, tags_after}
+use Rattle.ibx_matching.specs.Translation.{machine_core, machine_in, put_low}
+
+-- the address of a line that is stored has 32 bits, as every address in code has
+abbrev pub IsAddressed : WordPort → Type 0
+IsAddressed w = doing_of w.c_state ≡ AwaitsSecond → w.c_addr < 2 ^ 32
+
+-- the wires that write the cache put the words of a filling
+pub record Fills (f : Filling) (w : OutWires) : Type 0 where
+  pub tags : (tags : List ℕ) → put_tags f tags ≡ tags_after tags w
+  pub lines : (lines : List ℕ) → put_lines f lines ≡ lines_after lines w
+
+-- what the machine puts out, and the wires of the core; the machine has no alert of a word of the cache
+pub record SameOut (o : Out) (w : OutWires) (minor : Bool) : Type 0 where
+  pub fetch : o.fetch ≡ fetch_of w
+  pub load_store : o.load_store ≡ load_store_of w
+  pub happens : o.happens ≡ w.event
+  pub registers : (regs : List ℕ) → put_low o.write regs ≡ registers_after regs w
+  pub cache : Fills o.filling w
+  pub alerts : is_alert w ≡ (minor || o.alerts)
+
+-- the fields after a cycle, and what is put out in it
+pub record SameCycle (x : State) (i : InWires) : Type 0 where
+  pub fields : machine_next (machine_core x) (machine_in i) ≡ machine_core (core_next x i)
+  pub out : IsAddressed x.words → SameOut (machine_out (machine_core x) (machine_in i)) (core_out x i) (is_minor x i)

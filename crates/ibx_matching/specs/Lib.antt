@@ -1,0 +1,4 @@
+pub mod Translation
+pub mod Cycles
+pub mod Projection
+pub mod Laws

@@ -1,0 +1,55 @@
+-- The system of two cores as the machine's: main with the words round it, without the shadow and the delayed pairs.
+use Rattle.std.specs.Prelude.{◌≡◌, ℕ, ◌^◌, ◌<◌, All, List}
+use Rattle.ibx_isa.specs.declared.insn.MulKind.{MulKind}
+use Rattle.ibx_elf.specs.declared.ram.Ram.{Ram}
+use Rattle.ibx_elf.specs.Image.{image_of}
+use Rattle.ibx_plan.specs.declared.entry.Change.{Change}
+use Rattle.ibx_plan.specs.Plan.{PlanValue}
+use Rattle.ibx_core.specs.declared.state.State.{State}
+use Rattle.ibx_time.specs.Settings.{Setup}
+use Rattle.ibx_machine.specs.System.{System, first_system}
+use Rattle.ibx_flips.specs.Core.{core_parts}
+use Rattle.ibx_flips.specs.Flips.{IsFirst}
+use Rattle.ibx_flips.specs.System.{Settings, Whole}
+use Rattle.ibx_soc.specs.declared.config.Config.{Config}
+use Rattle.ibx_soc.specs.First.{first, settings_of}
+use Rattle.ibx_matching.specs.Translation.{machine_core}
+
+-- the setup of a file's image in this RAM
+abbrev pub of_file : List ℕ → Ram → MulKind → PlanValue → Setup
+of_file file ram mul plan = record { image = image_of file ram; mul = mul; plan = plan }
+
+-- the masks of the interrupt lines are words
+abbrev pub AreWords : List Change → Type 0
+AreWords changes = All (λ c. c.mask < 2 ^ 32) changes
+
+-- the configuration of a setup
+abbrev pub config_of : Setup → Config
+config_of s = record { ram = s.image.ram; mul = s.mul }
+
+-- the multiplier and the interrupt lines of a setup
+abbrev pub settings_in : Setup → Settings
+settings_in s = settings_of (config_of s) s.plan
+
+-- main with the words round it
+abbrev pub machine_system : Whole State → System
+machine_system w = record {
+  main = machine_core w.main;
+  regs = w.place.registers;
+  tags = w.place.tags;
+  lines = w.place.lines;
+  mem = w.place.memory;
+  iport = w.place.iport;
+  dport = w.place.dport;
+  cycle = w.place.cycle;
+}
+
+-- a first state of the two cores, with the setup's memory, waits, lines and multiplier
+pub record IsStart (s : Setup) (w : Whole State) : Type 0 where
+  pub first : IsFirst core_parts w
+  pub system : machine_system w ≡ first_system s
+  pub settings : w.place.settings ≡ settings_in s
+
+-- the system as it is opened
+abbrev pub opened : Setup → Whole State
+opened s = first s.image (config_of s) s.plan
