@@ -1,12 +1,18 @@
 -- What a well-formed file's headers and image are.
-use Rattle.std.proofs.Common.{◌≡◌, ℕ, zero, suc, ◌+◌, ◌-◌, ◌<◌, ◌≤◌, Bool, true, false, not, ◌&&◌, ◌||◌, min, ltb-false, ◌%◌, ◌*◌, List, [], ◌∷◌, ◌++◌, length, map, take, drop, length-take, length-drop, get_or-take, get_or-drop, Option, Some, None, unwrap_or, ◌⊎◌, inl, inr, refl, ◌∙◌, ap, arith}
+use Rattle.std.proofs.Common.{◌≡◌, ℕ, zero, suc, ◌+◌, ◌-◌, ◌<◌, ◌≤◌, Bool, true, false, not, ◌&&◌, ◌||◌, min}
+use Rattle.std.proofs.Common.{ltb-false, ◌%◌, ◌*◌, List, [], ◌∷◌, ◌++◌, length, map, take, drop, length-take}
+use Rattle.std.proofs.Common.{length-drop, get_or-take, get_or-drop, Option, Some, None, unwrap_or, ◌⊎◌, inl, inr}
+use Rattle.std.proofs.Common.{refl, ◌∙◌, ap, arith}
 use Rattle.std.proofs.lemmas.Bool.Decides.{nat_tests}
 use Rattle.ibx_elf.specs.declared.fields.ProgramHeader.{ProgramHeader}
 use Rattle.ibx_elf.specs.declared.ram.Ram.{Ram}
 use Rattle.ibx_elf.specs.declared.fault.ElfFault.TheVariants.{Short, Headers, TooMany}
-use Rattle.ibx_elf.specs.Faults.{IsWellFormed, file_header_fault, file_header_faults, first_fault, first_overlap, overlap_fault, outside_fault, segment_fault, entry_fault, is_bad_entry, shares_address, overruns, is_short, lacks_headers, has_too_many}
+use Rattle.ibx_elf.specs.Faults.{IsWellFormed, file_header_fault, file_header_faults, first_fault, first_overlap}
+use Rattle.ibx_elf.specs.Faults.{overlap_fault, outside_fault, segment_fault, entry_fault, is_bad_entry}
+use Rattle.ibx_elf.specs.Faults.{shares_address, overruns, is_short, lacks_headers, has_too_many}
 use Rattle.ibx_elf.specs.Fields.{HasHeaders, e_entry, e_phentsize, e_phnum, e_phoff, program_header, is_load}
-use Rattle.ibx_elf.specs.Image.{loaded_byte, segment_of, segments_below, HoldsSegments, IsReadable, IsZeroElsewhere, places, placed_by, placed_byte, image_byte, image_of}
+use Rattle.ibx_elf.specs.Image.{loaded_byte, segment_of, segments_below, HoldsSegments, IsReadable, IsZeroElsewhere}
+use Rattle.ibx_elf.specs.Image.{places, placed_by, placed_byte, image_byte, image_of}
 use Rattle.ibx_elf.specs.Ram.{IsInRam}
 use Rattle.ibx_elf.specs.Search.{first_below, first_of, only_if}
 use Rattle.std.specs.Option.{option_or}
@@ -22,6 +28,7 @@ pub record HasNoFault (file : List ℕ) (ram : Ram) : Type 0 where
   pub overlaps : first_below (first_overlap file) (e_phnum file) ≡ None
   pub entry : entry_fault file ram ≡ None
 
+-- a well-formed file has none of the faults
 pub no_fault : (file : List ℕ) (ram : Ram) → IsWellFormed file ram → HasNoFault file ram
 unfolding first_fault
 no_fault file ram well =
@@ -54,9 +61,13 @@ accepted_header : (file : List ℕ) → file_header_fault file ≡ None
 unfolding file_header_fault
 accepted_header file none =
     let all = first_of-none (file_header_faults file) none in
-    let last = all.1.1.1.1.1.1.1 in
-    (only_if-none (is_short file) Short all.0, only_if-none (lacks_headers file) Headers last.0, only_if-none (has_too_many file) TooMany last.1.0)
+    let last = all.1.1.1.1.1.1.1 in (
+      only_if-none (is_short file) Short all.0,
+      only_if-none (lacks_headers file) Headers last.0,
+      only_if-none (has_too_many file) TooMany last.1.0,
+    )
 
+-- program headers that passed the tests of their number, size and offset end within the file
 within_file : (count size first bytes : ℕ)
     → (not (count == 0 || count == 0xffff) && (not (size == 32) || nat_lt bytes (first + 32 * count))) ≡ false
     → (count == 0xffff) ≡ false → 0 < count → first + 32 * count ≤ bytes
@@ -71,13 +82,15 @@ headers_of file none =
       within = within_file (e_phnum file) (e_phentsize file) (e_phoff file) (length file) passed.1 passed.2;
     }
 
+-- of a well-formed file the headers and each segment's file bytes lie in the file
 pub readable : (file : List ℕ) (ram : Ram) → IsWellFormed file ram → IsReadable file
 readable file ram well =
     let parts = no_fault file ram well in
     record { headers = headers_of file parts.header; segments = parts.segments }
 
 -- where a segment of a readable file lies
-pub segment_within : (file : List ℕ) (i addr : ℕ) → IsReadable file → i < e_phnum file → places (program_header file i) addr ≡ true
+pub segment_within : (file : List ℕ) (i addr : ℕ) → IsReadable file → i < e_phnum file
+    → places (program_header file i) addr ≡ true
     → (program_header file i).p_offset + (addr - (program_header file i).p_paddr) < length file
 unfolding segment_fault
 segment_within file i addr read less has =
@@ -96,7 +109,8 @@ true_or_false false = inr refl
 
 -- of a well-formed file no other header has a byte for an address
 pub others_have_none : (file : List ℕ) (i j addr : ℕ) → first_below (first_overlap file) (e_phnum file) ≡ None
-    → i < e_phnum file → j < i → places (program_header file i) addr ≡ true → places (program_header file j) addr ≡ true → ⊥
+    → i < e_phnum file → j < i → places (program_header file i) addr ≡ true
+    → places (program_header file j) addr ≡ true → ⊥
 unfolding first_overlap overlap_fault
 others_have_none file i j addr none less before at_i at_j =
     let of_j = first_below-empty (first_overlap file) (e_phnum file) j none (omega arith) in
@@ -106,7 +120,8 @@ others_have_none file i j addr none less before at_i at_j =
     grind (arith, nat_tests)
 
 -- a header without a byte for an address places none
-pub not_placed : (file : List ℕ) (addr j : ℕ) → places (program_header file j) addr ≡ false → placed_by file addr j ≡ None
+pub not_placed : (file : List ℕ) (addr j : ℕ) → places (program_header file j) addr ≡ false
+    → placed_by file addr j ≡ None
 unfolding placed_by
 not_placed file addr j has_none = rw has_none refl
 
@@ -115,8 +130,11 @@ only_if-same : (test : Bool) (x y : ℕ) → (test ≡ true → x ≡ y) → opt
 only_if-same true x y same = ap Some (same refl)
 only_if-same false x y same = refl
 
-one_segment : (file : List ℕ) (load : Bool) (addr start offset count : ℕ) → (load ≡ true → length (take count (drop offset file)) ≡ count)
-    → first_of (map (loaded_byte addr) (if load then record { addr = start; bytes = take count (drop offset file) } ∷ [] else []))
+-- the byte that one segment, taken from the file, has for an address
+one_segment : (file : List ℕ) (load : Bool) (addr start offset count : ℕ)
+    → (load ≡ true → length (take count (drop offset file)) ≡ count)
+    → first_of (map (loaded_byte addr)
+    (if load then record { addr = start; bytes = take count (drop offset file) } ∷ [] else []))
     ≡ only_if (load && nat_le start addr && nat_lt addr (start + count)) (slice_index file (offset + (addr - start)))
 one_segment file false addr start offset count whole = refl
 one_segment file true addr start offset count whole =
@@ -126,15 +144,17 @@ one_segment file true addr start offset count whole =
     let below : addr - start < count = grind (arith, nat_tests) in
     get_or-take count (drop offset file) (addr - start) 0 below ∙ get_or-drop offset file (addr - start) 0))
 
+-- as many file bytes as the header says are left from its offset on
 whole_count : (count offset bytes : ℕ) → (count ≡ 0) ⊎ (offset + count ≤ bytes) → min count (bytes - offset) ≡ count
 whole_count count offset bytes (inl none) = omega arith
 whole_count count offset bytes (inr within) = omega arith
 
 -- the file bytes of a segment that doesn't overrun are all there
-whole_segment : (file : List ℕ) (header : ProgramHeader) → overruns (length file) header ≡ false → is_load header ≡ true
-    → length (take header.p_filesz (drop header.p_offset file)) ≡ header.p_filesz
+whole_segment : (file : List ℕ) (header : ProgramHeader) → overruns (length file) header ≡ false
+    → is_load header ≡ true → length (take header.p_filesz (drop header.p_offset file)) ≡ header.p_filesz
 whole_segment file header fits load =
-    let within : (header.p_filesz ≡ 0) ⊎ (header.p_offset + header.p_filesz ≤ length file) = grind (arith, nat_tests) in
+    let within : (header.p_filesz ≡ 0) ⊎ (header.p_offset + header.p_filesz ≤ length file) =
+    grind (arith, nat_tests) in
     simp (length-take, length-drop) (whole_count header.p_filesz header.p_offset (length file) within)
 
 -- the first answer of two lists
@@ -151,28 +171,35 @@ placed_among file addr zero none = refl
 placed_among file addr (suc n) none =
     let fits : overruns (length file) (program_header file n) ≡ false = only_if-none _ _ (none n (omega arith)) in
     let header = program_header file n in
-    let last = one_segment file (is_load header) addr header.p_paddr header.p_offset header.p_filesz (whole_segment file header fits) in
+    let last = one_segment file (is_load header) addr header.p_paddr header.p_offset header.p_filesz
+    (whole_segment file header fits) in
     let before = placed_among file addr n (λ i below. none i (omega arith)) in
     rw (map-append (loaded_byte addr) (segments_below file n) (segment_of file header))
     (let have = map (loaded_byte addr) (segments_below file n) in
     let here = map (loaded_byte addr) (segment_of file header) in
-    first_of-append have here ∙ ap (λ o. option_or o (first_of here)) before ∙ ap (option_or (first_below (placed_by file addr) n)) last)
+    first_of-append have here ∙ ap (λ o. option_or o (first_of here)) before
+    ∙ ap (option_or (first_below (placed_by file addr) n)) last)
 
-pub byte_of-image_of : (file : List ℕ) (ram : Ram) (addr : ℕ) → IsReadable file → image_byte (image_of file ram) addr ≡ placed_byte file addr
+-- a byte of the image is the one that a header places there, or 0
+pub byte_of-image_of : (file : List ℕ) (ram : Ram) (addr : ℕ) → IsReadable file
+    → image_byte (image_of file ram) addr ≡ placed_byte file addr
 unfolding image_byte placed_byte
 byte_of-image_of file ram addr read =
     ap (λ o. unwrap_or o 0)
-    (placed_among file addr (e_phnum file) (λ i less. first_below-empty (segment_fault file) (e_phnum file) i read.segments less))
+    (placed_among file addr (e_phnum file)
+    (λ i less. first_below-empty (segment_fault file) (e_phnum file) i read.segments less))
 
 -- the header's own byte
 placed_here : (file : List ℕ) (i k : ℕ) → is_load (program_header file i) ≡ true → k < (program_header file i).p_filesz
-    → placed_by file ((program_header file i).p_paddr + k) i ≡ Some (slice_index file ((program_header file i).p_offset + k))
+    → placed_by file ((program_header file i).p_paddr + k) i
+    ≡ Some (slice_index file ((program_header file i).p_offset + k))
 unfolding placed_by
 placed_here file i k load inside =
     let has : places (program_header file i) ((program_header file i).p_paddr + k) ≡ true = grind (arith, nat_tests) in
     let back : (program_header file i).p_paddr + k - (program_header file i).p_paddr ≡ k = omega arith in
     rw (has, back) refl
 
+-- byte k of a segment's file bytes is the one that is placed at its address
 placed_byte-segment : (file : List ℕ) (ram : Ram) → IsWellFormed file ram → (i k : ℕ) → i < e_phnum file
     → is_load (program_header file i) ≡ true → k < (program_header file i).p_filesz
     → placed_byte file ((program_header file i).p_paddr + k) ≡ slice_index file ((program_header file i).p_offset + k)
@@ -187,14 +214,18 @@ placed_byte-segment file ram well i k less load inside =
       | inl also ↦ absurd (others_have_none file i j addr overlaps less below has also)
       | inr not_here ↦ not_placed file addr j not_here
     ]) in
-    let found = first_below-found (placed_by file addr) i (e_phnum file) _ less before (placed_here file i k load inside) in
+    let found =
+    first_below-found (placed_by file addr) i (e_phnum file) _ less before (placed_here file i k load inside) in
     ap (λ o. unwrap_or o 0) found
 
+-- the image has each segment's file bytes
 pub holds_segments : (file : List ℕ) (ram : Ram) → IsWellFormed file ram → HoldsSegments file (image_of file ram)
 holds_segments file ram well i k less load inside =
     byte_of-image_of file ram _ (readable file ram well) ∙ placed_byte-segment file ram well i k less load inside
 
-placed_byte-elsewhere : (file : List ℕ) (addr : ℕ) → ((i : ℕ) → i < e_phnum file → places (program_header file i) addr ≡ false) → placed_byte file addr ≡ 0
+-- where no header places a byte there is 0, in the placed bytes and in the image
+placed_byte-elsewhere : (file : List ℕ) (addr : ℕ)
+    → ((i : ℕ) → i < e_phnum file → places (program_header file i) addr ≡ false) → placed_byte file addr ≡ 0
 unfolding placed_byte
 placed_byte-elsewhere file addr nowhere =
     ap (λ o. unwrap_or o 0)
@@ -204,7 +235,7 @@ pub is_zero_elsewhere : (file : List ℕ) (ram : Ram) → IsWellFormed file ram 
 is_zero_elsewhere file ram well addr nowhere =
     byte_of-image_of file ram addr (readable file ram well) ∙ placed_byte-elsewhere file addr nowhere
 
--- the entry of a well-formed file
+-- the entry of a well-formed file passes its test, and so is even and in RAM
 pub good_entry : (file : List ℕ) (ram : Ram) → IsWellFormed file ram → is_bad_entry ram (e_entry file) ≡ false
 unfolding entry_fault
 good_entry file ram well = only_if-none _ _ (no_fault file ram well).entry

@@ -4,3 +4,4 @@ pub mod Overlaps
 pub mod Laws
 pub mod Puts
 pub mod Rams
+pub mod Counted

@@ -8,6 +8,7 @@ use Rattle.ibx_elf.specs.Fields.{e_phnum, has_file_bytes, program_header}
 use Rattle.ibx_elf.specs.Search.{first_below}
 use Rattle.ibx_elf.proofs.Searching.{first_below-none}
 
+-- a header has no such fault with itself or an earlier one
 overlap_fault-earlier : (file : List ℕ) (i j : ℕ) → j ≤ i → overlap_fault file i j ≡ None
 unfolding overlap_fault
 overlap_fault-earlier file i j earlier = rw (le-ltb i j earlier) refl
@@ -20,11 +21,13 @@ no_overlap_up_to file i =
 apart : (a b : ProgramHeader) → precedes a b ≡ true → shares_address a b ≡ false
 apart a b before = grind (arith, nat_tests)
 
+-- a segment without file bytes shares no address
 empty_apart : (a b : ProgramHeader) → has_file_bytes a ≡ false → shares_address a b ≡ false
 empty_apart a b none = grind (arith, nat_tests)
 
-no_fault_of : (file : List ℕ) (i j : ℕ) → (i < j → shares_address (program_header file i) (program_header file j) ≡ false)
-    → overlap_fault file i j ≡ None
+-- a pair that shares no address has no fault
+no_fault_of : (file : List ℕ) (i j : ℕ)
+    → (i < j → shares_address (program_header file i) (program_header file j) ≡ false) → overlap_fault file i j ≡ None
 unfolding overlap_fault
 no_fault_of file i j apart =
     elim (cases_lt i j) as (λ _. overlap_fault file i j ≡ None) [
@@ -32,14 +35,18 @@ no_fault_of file i j apart =
       | inr from ↦ rw (le-ltb i j from) refl
     ]
 
+-- no two of ascending headers share an address
 pub ascending_apart : (file : List ℕ) → AreAscending file → first_below (first_overlap file) (e_phnum file) ≡ None
 unfolding first_overlap
 ascending_apart file up =
     first_below-none (first_overlap file) (e_phnum file)
     (λ i within. first_below-none (overlap_fault file i) (e_phnum file)
-    (λ j below. no_fault_of file i j (λ less. apart (program_header file i) (program_header file j) (up i j less below))))
+    (λ j below. no_fault_of file i j (λ less. apart (program_header file i) (program_header file j)
+    (up i j less below))))
 
-pub empty_has_none : (file : List ℕ) (i : ℕ) → has_file_bytes (program_header file i) ≡ false → first_overlap file i ≡ None
+-- a header without file bytes overlaps with none
+pub empty_has_none : (file : List ℕ) (i : ℕ) → has_file_bytes (program_header file i) ≡ false
+    → first_overlap file i ≡ None
 unfolding first_overlap
 empty_has_none file i none =
     first_below-none (overlap_fault file i) (e_phnum file)
@@ -48,14 +55,20 @@ empty_has_none file i none =
 -- the headers below n are ascending, and their file bytes end at `end`
 pub record Ascends (file : List ℕ) (n end : ℕ) : Type 0 where
   pub before : (i j : ℕ) → i < j → j < n → precedes (program_header file i) (program_header file j) ≡ true
-  pub within : (i : ℕ) → i < n → has_file_bytes (program_header file i) ≡ true → (program_header file i).p_paddr + (program_header file i).p_filesz ≤ end
-  pub reached : 0 < end → (i : ℕ) × ((i < n) × ((has_file_bytes (program_header file i) ≡ true) × ((program_header file i).p_paddr + (program_header file i).p_filesz ≡ end)))
+  pub within : (i : ℕ) → i < n → has_file_bytes (program_header file i) ≡ true
+      → (program_header file i).p_paddr + (program_header file i).p_filesz ≤ end
+  pub reached : 0 < end → (i : ℕ) × ((i < n)
+      × ((has_file_bytes (program_header file i) ≡ true)
+      × ((program_header file i).p_paddr + (program_header file i).p_filesz ≡ end)))
 
-too_early : (header : ProgramHeader) (end : ℕ) → end_after header end ≡ None → (has_file_bytes header ≡ true) × (header.p_paddr < end)
+-- a header that has no end after the bytes before it has bytes that begin before their end
+too_early : (header : ProgramHeader) (end : ℕ) → end_after header end ≡ None
+    → (has_file_bytes header ≡ true) × (header.p_paddr < end)
 too_early header end none = (grind (arith, nat_tests), grind (arith, nat_tests))
 
-not_behind : (a b : ProgramHeader) (end : ℕ) → has_file_bytes a ≡ true → a.p_paddr + a.p_filesz ≡ end → has_file_bytes b ≡ true
-    → b.p_paddr < end → precedes a b ≡ true → ⊥
+-- such a header isn't preceded by one that ends there
+not_behind : (a b : ProgramHeader) (end : ℕ) → has_file_bytes a ≡ true → a.p_paddr + a.p_filesz ≡ end
+    → has_file_bytes b ≡ true → b.p_paddr < end → precedes a b ≡ true → ⊥
 not_behind a b end some_a ends some_b early before = grind (arith, nat_tests)
 
 -- file bytes that begin before the end of those before them don't ascend

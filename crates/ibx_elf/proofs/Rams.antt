@@ -5,6 +5,7 @@ use Rattle.std.proofs.lemmas.Bool.Decides.{nat_tests, same_from_decides}
 use Rattle.ibx_elf.specs.declared.ram.Ram.{Ram}
 use Rattle.ibx_elf.specs.Ram.{IsRamRange, is_ram_range}
 
+-- the test is passed by the ranges that may be memory, and by no others
 pub is_ram_range-tested : (ram : Ram) → is_ram_range ram ≡ true → IsRamRange ram
 is_ram_range-tested ram h = record {
   base_in_steps = grind (arith, nat_tests);
@@ -20,4 +21,5 @@ is_ram_range-of ram r = grind (arith, nat_tests)
 
 -- what a test that decides it answers
 pub tested_alike : (ram : Ram) (answer : Bool) → Decides answer (IsRamRange ram) → answer ≡ is_ram_range ram
-tested_alike ram answer h = same_from_decides answer (is_ram_range ram) h (is_ram_range-tested ram, is_ram_range-of ram)
+tested_alike ram answer h =
+    same_from_decides answer (is_ram_range ram) h (is_ram_range-tested ram, is_ram_range-of ram)

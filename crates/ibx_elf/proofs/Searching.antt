@@ -1,5 +1,6 @@
 -- A search goes on where there is no answer yet, and ends at the first.
-use Rattle.std.proofs.Common.{◌≡◌, ℕ, zero, suc, ◌+◌, ◌<◌, ◌≤◌, Option, Some, None, refl, arith, add-one, add-zero, add-suc, ◌-◌, eq-or-lt_of_le, inl, inr}
+use Rattle.std.proofs.Common.{◌≡◌, ℕ, zero, suc, ◌+◌, ◌<◌, ◌≤◌, Option, Some, None, refl, arith, add-one, add-zero}
+use Rattle.std.proofs.Common.{add-suc, ◌-◌, eq-or-lt_of_le, inl, inr}
 use Rattle.std.specs.Option.{option_or}
 use Rattle.ibx_elf.specs.Search.{first_below}
 
@@ -9,18 +10,21 @@ unfolding first_below
 first_below-zero f = refl
 
 -- no answer below n and none at n is none below n + 1
-pub first_below-next : {A : Type 0} (f : ℕ → Option A) (n : ℕ) → first_below f n ≡ None → f n ≡ None → first_below f (n + 1) ≡ None
+pub first_below-next : {A : Type 0} (f : ℕ → Option A) (n : ℕ) → first_below f n ≡ None → f n ≡ None
+    → first_below f (n + 1) ≡ None
 unfolding first_below
 first_below-next f n before here = rw (add-one n, before) here
 
 -- an answer once found stays the first
-pub first_below-past : {A : Type 0} (f : ℕ → Option A) (n d : ℕ) (x : A) → first_below f n ≡ Some x → first_below f (n + d) ≡ Some x
+pub first_below-past : {A : Type 0} (f : ℕ → Option A) (n d : ℕ) (x : A) → first_below f n ≡ Some x
+    → first_below f (n + d) ≡ Some x
 unfolding first_below
 first_below-past f n zero x found = rw (add-zero n) found
 first_below-past f n (suc d) x found = rw (add-suc n d, first_below-past f n d x found) refl
 
 -- the first answer at i is the first below any greater n
-pub first_below-found : {A : Type 0} (f : ℕ → Option A) (i n : ℕ) (x : A) → i < n → first_below f i ≡ None → f i ≡ Some x → first_below f n ≡ Some x
+pub first_below-found : {A : Type 0} (f : ℕ → Option A) (i n : ℕ) (x : A) → i < n → first_below f i ≡ None
+    → f i ≡ Some x → first_below f n ≡ Some x
 unfolding first_below
 first_below-found f i n x less before here =
     let found : first_below f (suc i) ≡ Some x = rw before here in
@@ -28,7 +32,8 @@ first_below-found f i n x less before here =
     rw split (first_below-past f (suc i) (n - suc i) x found)
 
 -- no answers, no first
-pub first_below-none : {A : Type 0} (f : ℕ → Option A) (n : ℕ) → ((k : ℕ) → k < n → f k ≡ None) → first_below f n ≡ None
+pub first_below-none : {A : Type 0} (f : ℕ → Option A) (n : ℕ) → ((k : ℕ) → k < n → f k ≡ None)
+    → first_below f n ≡ None
 unfolding first_below
 first_below-none f zero none = refl
 first_below-none f (suc n) none =
@@ -51,4 +56,5 @@ first_below-empty f (suc n) k none less =
       | inr below ↦ first_below-empty f n k both.0 below
     ]
 
+-- the two steps of a search, for automatic proofs
 pub ruleset steps = (first_below-zero, first_below-next)

@@ -1,11 +1,14 @@
 -- When a file is refused, and why.
-use Rattle.std.specs.Prelude.{◌≡◌, ℕ, ◌+◌, ◌*◌, ◌%◌, Bool, true, not, ◌&&◌, ◌||◌, ◌==◌, nat_eq, nat_le, nat_lt, ◌<◌, if◌then◌else◌, List, [], ◌∷◌, length, max, min, Option, None, Some, Result, MatchResult}
+use Rattle.std.specs.Prelude.{◌≡◌, ℕ, ◌+◌, ◌*◌, ◌%◌, Bool, true, not, ◌&&◌, ◌||◌, ◌==◌, nat_eq, nat_le, nat_lt, ◌<◌}
+use Rattle.std.specs.Prelude.{if◌then◌else◌, List, [], ◌∷◌, length, max, min, Option, None, Some, Result, MatchResult}
 use Rattle.std.specs.List.{starts_with}
 use Rattle.ibx_elf.specs.declared.fault.ElfFault.{ElfFault}
-use Rattle.ibx_elf.specs.declared.fault.ElfFault.TheVariants.{Short, Magic, Class, Order, Version, Kind, Machine, Headers, TooMany, Segment, OutsideRam, Overlap, Entry}
+use Rattle.ibx_elf.specs.declared.fault.ElfFault.TheVariants.{Short, Magic, Class, Order, Version, Kind, Machine}
+use Rattle.ibx_elf.specs.declared.fault.ElfFault.TheVariants.{Headers, TooMany, Segment, OutsideRam, Overlap, Entry}
 use Rattle.ibx_elf.specs.declared.fields.ProgramHeader.{ProgramHeader}
 use Rattle.ibx_elf.specs.declared.ram.Ram.{Ram}
-use Rattle.ibx_elf.specs.Fields.{ei_class, ei_data, ei_version, e_type, e_machine, e_version, e_entry, e_phoff, e_phentsize, e_phnum, program_header, has_file_bytes, is_load}
+use Rattle.ibx_elf.specs.Fields.{ei_class, ei_data, ei_version, e_type, e_machine, e_version, e_entry, e_phoff}
+use Rattle.ibx_elf.specs.Fields.{e_phentsize, e_phnum, program_header, has_file_bytes, is_load}
 use Rattle.ibx_elf.specs.Ram.{ram_has, ram_has_all}
 use Rattle.ibx_elf.specs.Search.{first_below, first_of, only_if}
 
@@ -73,7 +76,8 @@ precedes a b = not (has_file_bytes a && has_file_bytes b) || nat_le (a.p_paddr +
 
 -- the file bytes of each segment lie after those of the segments before it
 abbrev pub AreAscending : List ℕ → Type 0
-AreAscending file = (i j : ℕ) → i < j → j < e_phnum file → precedes (program_header file i) (program_header file j) ≡ true
+AreAscending file =
+    (i j : ℕ) → i < j → j < e_phnum file → precedes (program_header file i) (program_header file j) ≡ true
 
 -- where the file bytes of a header and of those before it end, if the ones before it end at `end`; none where its
 -- own begin before that
@@ -89,6 +93,8 @@ is_bad_entry ram entry = entry % 2 == 1 || not (ram_has ram entry)
 unfoldable pub segment_fault : List ℕ → ℕ → Option ElfFault
 segment_fault file i = only_if (overruns (length file) (program_header file i)) (Segment i)
 
+-- a segment with memory outside of RAM, and a pair of segments that share an address: the header of the lower number
+-- is named first
 unfoldable pub outside_fault : List ℕ → Ram → ℕ → Option ElfFault
 outside_fault file ram i = only_if (leaves ram (program_header file i)) (OutsideRam i)
 

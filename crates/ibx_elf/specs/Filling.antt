@@ -1,5 +1,6 @@
 -- Words that are filled byte by byte.
-use Rattle.std.specs.Prelude.{ℕ, ◌+◌, ◌-◌, ◌*◌, ◌/◌, ◌%◌, ◌^◌, ◌<◌, ◌≡◌, ◌&&◌, ◌==◌, nat_lt, nat_le, List, length, slice_index, if◌then◌else◌, unwrap_or}
+use Rattle.std.specs.Prelude.{ℕ, ◌+◌, ◌-◌, ◌*◌, ◌/◌, ◌%◌, ◌^◌, ◌<◌, ◌≡◌, ◌&&◌, ◌==◌, nat_lt, nat_le, List, length}
+use Rattle.std.specs.Prelude.{slice_index, if◌then◌else◌, unwrap_or}
 use Rattle.ibx_elf.specs.Image.{placed_by}
 use Rattle.ibx_elf.specs.Search.{first_below}
 use Rattle.ibx_bits.specs.Bytes.{word_byte}
@@ -25,5 +26,6 @@ HasPut before start bytes n after =
 
 -- words that have the bytes which the headers below n place from the base on, and 0 elsewhere
 pub record FilledBelow (file : List ℕ) (base : ℕ) (words : List ℕ) (n : ℕ) : Type 0 where
-  pub bytes : (a : ℕ) → a < 4 * length words → byte_of words a ≡ unwrap_or (first_below (placed_by file (base + a)) n) 0
+  pub bytes : (a : ℕ) → a < 4 * length words
+      → byte_of words a ≡ unwrap_or (first_below (placed_by file (base + a)) n) 0
   pub small : AreWords words

@@ -17,7 +17,8 @@ pub record IsRamRange (ram : Ram) : Type 0 where
 abbrev pub is_ram_range : Ram → Bool
 is_ram_range ram = (ram.base % 4096 == 0) && (ram.size % 4096 == 0)
     && nat_le 4096 ram.size && nat_le ram.size 16777216
-    && nat_le (ram.base + ram.size) (2 ^ 32) && (nat_le (ram.base + ram.size) host_page || nat_le host_page_end ram.base)
+    && nat_le (ram.base + ram.size) (2 ^ 32)
+    && (nat_le (ram.base + ram.size) host_page || nat_le host_page_end ram.base)
 
 -- an address of memory
 pub record IsInRam (ram : Ram) (addr : ℕ) : Type 0 where

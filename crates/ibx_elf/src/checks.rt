@@ -10,22 +10,22 @@ use crate::fields::{
 };
 use crate::ram::Ram;
 
-/// The bytes that begin each ELF file.
+// The bytes that begin each ELF file.
 const MAGIC: [u8; 4] = [0x7f, b'E', b'L', b'F'];
-/// A file of 32-bit objects.
+// A file of 32-bit objects.
 const ELFCLASS32: u8 = 1;
-/// The lowest byte of a number stands first.
+// The lowest byte of a number stands first.
 const ELFDATA2LSB: u8 = 1;
-/// The one version of the format.
+// The one version of the format.
 const EV_CURRENT: u8 = 1;
-/// An executable file.
+// An executable file.
 const ET_EXEC: u16 = 2;
-/// RISC-V.
+// RISC-V.
 const EM_RISCV: u16 = 243;
-/// The `e_phnum` of a file whose number of program headers stands elsewhere.
+// The `e_phnum` of a file whose number of program headers stands elsewhere.
 const PN_XNUM: u16 = 0xffff;
 
-/// Checks the file header, all but its entry.
+// Checks the file header, all but its entry.
 #[tactic(auto, unfolding(crate::specs::Faults::file_header_fault))]
 pub(crate) fn check_file_header(file: &[u8]) -> Result<(), ElfFault>
     ensures fault { Reports result (file_header_fault file.now) }
@@ -66,7 +66,7 @@ pub(crate) fn check_file_header(file: &[u8]) -> Result<(), ElfFault>
     Ok(())
 }
 
-/// Checks that the file bytes of each segment lie within the file and fill no more than its memory.
+// Checks that the file bytes of each segment lie within the file and fill no more than its memory.
 #[tactic(auto, using(crate::proofs::Searching::steps), unfolding(crate::specs::Faults::segment_fault))]
 pub(crate) fn check_segments(file: &[u8]) -> Result<(), ElfFault>
     requires { HasHeaders file.now }
@@ -80,7 +80,7 @@ pub(crate) fn check_segments(file: &[u8]) -> Result<(), ElfFault>
     Ok(())
 }
 
-/// Checks that the memory of each segment lies in RAM.
+// Checks that the memory of each segment lies in RAM.
 #[tactic(auto, using(crate::proofs::Searching::steps), unfolding(crate::specs::Faults::outside_fault))]
 pub(crate) fn check_ranges(file: &[u8], ram: Ram) -> Result<(), ElfFault>
     requires { HasHeaders file.now }
@@ -94,7 +94,7 @@ pub(crate) fn check_ranges(file: &[u8], ram: Ram) -> Result<(), ElfFault>
     Ok(())
 }
 
-/// Checks that no later segment has a file byte at an address of a file byte of segment `i`.
+// Checks that no later segment has a file byte at an address of a file byte of segment `i`.
 #[tactic(auto, using(crate::proofs::Searching::steps), unfolding(crate::specs::Faults::first_overlap, crate::specs::Faults::overlap_fault))]
 fn check_overlaps_of(file: &[u8], i: u16) -> Result<(), ElfFault>
     requires headers { HasHeaders file.now }
@@ -114,7 +114,7 @@ fn check_overlaps_of(file: &[u8], i: u16) -> Result<(), ElfFault>
     Ok(())
 }
 
-/// Whether the file bytes of each segment lie after those of the segments before it.
+// Whether the file bytes of each segment lie after those of the segments before it.
 fn are_ascending(file: &[u8]) -> bool
     requires { HasHeaders file.now }
     ensures { IsTrue result ↔ AreAscending file.now }
@@ -129,8 +129,8 @@ fn are_ascending(file: &[u8]) -> bool
     true
 }
 
-/// Checks that the file bytes of no two segments share an address. Pairs are compared only where the file
-/// bytes don't come in ascending order, as linkers write them.
+// Checks that the file bytes of no two segments share an address. Pairs are compared only where the file
+// bytes don't come in ascending order, as linkers write them.
 #[tactic(auto, using(crate::proofs::Searching::steps))]
 pub(crate) fn check_overlaps(file: &[u8]) -> Result<(), ElfFault>
     requires { HasHeaders file.now }
@@ -145,7 +145,7 @@ pub(crate) fn check_overlaps(file: &[u8]) -> Result<(), ElfFault>
     Ok(())
 }
 
-/// Checks that the entry is even and in RAM.
+// Checks that the entry is even and in RAM.
 #[tactic(auto, unfolding(crate::specs::Faults::entry_fault))]
 pub(crate) fn check_entry(file: &[u8], ram: Ram) -> Result<(), ElfFault>
     requires { 52 ≤ length file.now }

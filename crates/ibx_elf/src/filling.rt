@@ -8,7 +8,7 @@ ghost use Rattle.std.specs.Prelude.{ℕ, ◌+◌, ◌*◌, ◌<◌, ◌≡◌, �
 use crate::fields::{ProgramHeader, header_count};
 use crate::ram::Ram;
 
-/// The word with another byte in a lane, from 0, the lowest, to 3.
+// The word with another byte in a lane, from 0, the lowest, to 3.
 fn with_byte(word: u32, lane: usize, byte: u8) -> u32
     requires { lane < 4 }
     ensures { (j : ℕ) → j < 4 → word_byte result j ≡ (if j == lane then byte else word_byte word j) }
@@ -18,7 +18,7 @@ fn with_byte(word: u32, lane: usize, byte: u8) -> u32
     u32::from_le_bytes(bytes)
 }
 
-/// Puts a byte at a byte offset of the words; the lowest byte of each word stands first.
+// Puts a byte at a byte offset of the words; the lowest byte of each word stands first.
 fn put_byte(words: &mut [u32], at: usize, byte: u8)
     requires { at < 4 * length words.old }
     ensures bytes { HasPutByte words.old at byte words.new }
@@ -27,7 +27,7 @@ fn put_byte(words: &mut [u32], at: usize, byte: u8)
     words[at / 4] = with_byte(words[at / 4], at % 4, byte);
 }
 
-/// Puts bytes one after the other, from a byte offset of the words on.
+// Puts bytes one after the other, from a byte offset of the words on.
 fn put_bytes(words: &mut [u32], start: usize, bytes: &[u8])
     requires { start + length bytes.now ≤ 4 * length words.old }
     ensures bytes { HasPut words.old start bytes.now (length bytes.now) words.new }
@@ -38,7 +38,7 @@ fn put_bytes(words: &mut [u32], start: usize, bytes: &[u8])
     }
 }
 
-/// Puts the file bytes of segment `i` where they are loaded.
+// Puts the file bytes of segment `i` where they are loaded.
 fn put_segment(file: &[u8], i: u16, ram: Ram, words: &mut [u32])
     requires well_formed { IsWellFormed file.now ram }
     requires index { i < e_phnum file.now }
@@ -53,8 +53,8 @@ fn put_segment(file: &[u8], i: u16, ram: Ram, words: &mut [u32])
     }
 }
 
-/// Makes the words those of a RAM that a file without a fault is loaded into: 0, but for the file bytes of
-/// each segment. It walks the program headers once.
+// Makes the words those of a RAM that a file without a fault is loaded into: 0, but for the file bytes of
+// each segment. It walks the program headers once.
 pub(crate) fn fill_words(file: &[u8], ram: Ram, words: &mut [u32])
     requires well_formed { IsWellFormed file.now ram }
     requires count { 4 * length words.old ≡ ram.size }

@@ -1,13 +1,14 @@
 ghost use Rattle.ibx_elf.specs.Faults.{IsWellFormed, Reports, first_fault};
 ghost use Rattle.ibx_elf.specs.Image.{HoldsBytes, HoldsSegments, HoldsWords, IsReadable, IsZeroElsewhere, Placed, image_byte, image_of, placed_byte, image_word};
 ghost use Rattle.ibx_elf.specs.Ram.{IsInRam, IsRamRange};
-ghost use Rattle.std.specs.Prelude.{IfOk, ℕ, length, ◌+◌, ◌*◌, ◌%◌, ◌/◌, ◌<◌, ◌^◌, ◌≡◌};
+ghost use Rattle.std.specs.Prelude.{IfOk, Some, ℕ, length, slice_get, ◌+◌, ◌*◌, ◌%◌, ◌/◌, ◌<◌, ◌^◌, ◌≡◌};
 
 use crate::checks::{check_entry, check_file_header, check_overlaps, check_ranges, check_segments};
 use crate::fault::ElfFault;
 use crate::fields::{E_ENTRY, ProgramHeader, header_count, word_at};
 use crate::filling::fill_words;
 use crate::ram::Ram;
+use crate::segments::{count_segments, segment_at};
 use std::marker::Model;
 
 /// The memory that a file describes: each file byte that a loadable segment places at its physical
@@ -65,6 +66,22 @@ impl<'f> Image<'f> {
         word_at(self.file, E_ENTRY)
     }
 
+    /// How many loadable segments, `PT_LOAD`, the file has.
+    pub fn segments(&self) -> u16
+        ensures { result ≡ length self.now.segments }
+    {
+        count_segments(self.file)
+    }
+
+    /// The physical address of the loadable segment of this number, counted from 0 in the order of the program
+    /// headers, and its bytes of the file.
+    pub fn segment(&self, i: u16) -> (u32, &'f [u8])
+        requires { i < length self.now.segments }
+        ensures { slice_get self.now.segments i ≡ Some (record { addr = result.0; bytes = result.1.now }) }
+    {
+        segment_at(self.file, i)
+    }
+
     /// The word at a byte address of RAM that is a multiple of 4, the lowest byte first.
     pub fn word(&self, addr: u32) -> u32
         requires aligned { addr % 4 ≡ 0 }
@@ -91,7 +108,7 @@ impl<'f> Image<'f> {
     }
 }
 
-/// The file byte that a segment places at a byte address, or 0.
+// The file byte that a segment places at a byte address, or 0.
 #[tactic(auto, using(crate::proofs::Searching::steps), unfolding(crate::specs::Image::placed_byte, crate::specs::Image::placed_by))]
 fn byte_at(file: &[u8], addr: u32) -> u8
     requires { IsReadable file.now }

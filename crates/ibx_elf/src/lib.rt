@@ -10,6 +10,7 @@ mod fields;
 mod filling;
 mod image;
 mod ram;
+mod segments;
 
 pub use fault::ElfFault;
 pub use image::{Image, load};

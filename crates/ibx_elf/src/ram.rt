@@ -2,9 +2,9 @@ ghost use Rattle.std.specs.Prelude.{IsTrue, ◌↔◌, ◌≡◌};
 
 use ibx_bits::{HOST_PAGE, HOST_PAGE_END};
 
-/// The step of a RAM's base and size, in bytes (our own rule).
+// The step of a RAM's base and size, in bytes (our own rule).
 const PAGE_BYTES: u32 = 4_096;
-/// The largest RAM, in bytes (our own rule).
+// The largest RAM, in bytes (our own rule).
 const MAX_BYTES: u32 = 16_777_216;
 
 /// The range of byte addresses that is memory.

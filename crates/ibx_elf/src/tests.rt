@@ -1,14 +1,14 @@
 use crate::{ElfFault, Ram, load};
 use std::test::Fail;
 
-/// 1 MiB of memory.
+// 1 MiB of memory.
 const RAM: Ram = Ram {
     base: 0x0010_0000,
     size: 0x0010_0000,
 };
 
-/// One segment of three instructions at 0x0010_0080, which is the entry: a file header, a program header
-/// and the instructions `lui x6, 0x20`, `addi x7, x0, 1` and `sw x7, 8(x6)`.
+// One segment of three instructions at 0x0010_0080, which is the entry: a file header, a program header
+// and the instructions `lui x6, 0x20`, `addi x7, x0, 1` and `sw x7, 8(x6)`.
 const ONE: [u8; 96] = [
     0x7f, 0x45, 0x4c, 0x46, 0x01, 0x01, 0x01, 0x00, 0x00, 0x00, 0x00, 0x00, 0x00, 0x00, 0x00, 0x00,
     0x02, 0x00, 0xf3, 0x00, 0x01, 0x00, 0x00, 0x00, 0x80, 0x00, 0x10, 0x00, 0x34, 0x00, 0x00, 0x00,
@@ -18,7 +18,7 @@ const ONE: [u8; 96] = [
     0x04, 0x00, 0x00, 0x00, 0x37, 0x03, 0x02, 0x00, 0x93, 0x03, 0x10, 0x00, 0x23, 0x24, 0x73, 0x00,
 ];
 
-/// The same file with a second program header: 4,096 bytes of memory at 0x0011_0000, and no file bytes.
+// The same file with a second program header: 4,096 bytes of memory at 0x0011_0000, and no file bytes.
 const TWO: [u8; 128] = [
     0x7f, 0x45, 0x4c, 0x46, 0x01, 0x01, 0x01, 0x00, 0x00, 0x00, 0x00, 0x00, 0x00, 0x00, 0x00, 0x00,
     0x02, 0x00, 0xf3, 0x00, 0x01, 0x00, 0x00, 0x00, 0x80, 0x00, 0x10, 0x00, 0x34, 0x00, 0x00, 0x00,
@@ -30,8 +30,8 @@ const TWO: [u8; 128] = [
     0x04, 0x00, 0x00, 0x00, 0x37, 0x03, 0x02, 0x00, 0x93, 0x03, 0x10, 0x00, 0x23, 0x24, 0x73, 0x00,
 ];
 
-/// The same instructions as LLVM's assembler and linker (LLD 22.1.8) write them for the target riscv32, with
-/// headers for the stack and the attributes, a note section and section headers.
+// The same instructions as LLVM's assembler and linker (LLD 22.1.8) write them for the target riscv32, with
+// headers for the stack and the attributes, a note section and section headers.
 const LINKED: [u8; 476] = [
     0x7f, 0x45, 0x4c, 0x46, 0x01, 0x01, 0x01, 0x00, 0x00, 0x00, 0x00, 0x00, 0x00, 0x00, 0x00, 0x00,
     0x02, 0x00, 0xf3, 0x00, 0x01, 0x00, 0x00, 0x00, 0x80, 0x00, 0x10, 0x00, 0x34, 0x00, 0x00, 0x00,
@@ -65,7 +65,7 @@ const LINKED: [u8; 476] = [
     0x00, 0x00, 0x00, 0x00, 0x01, 0x00, 0x00, 0x00, 0x00, 0x00, 0x00, 0x00,
 ];
 
-/// The words from the entry on that each of the three files describes.
+// The words from the entry on that each of the three files describes.
 const WORDS: [u32; 4] = [0x0002_0337, 0x0010_0393, 0x0073_2423, 0];
 
 fn fault_of(file: &[u8]) -> Option<ElfFault> {
@@ -85,7 +85,7 @@ fn words_of(file: &[u8]) -> Result<[u32; 4], Fail> {
     ])
 }
 
-/// The file with two program headers, with other values in the second.
+// The file with two program headers, with other values in the second.
 fn with_second(p_paddr: u32, p_filesz: u32, p_memsz: u32) -> [u8; 128] {
     let mut file = TWO;
     file[96..100].copy_from_slice(&p_paddr.to_le_bytes());
@@ -97,28 +97,33 @@ fn with_second(p_paddr: u32, p_filesz: u32, p_memsz: u32) -> [u8; 128] {
 #[test]
 fn tells_the_first_fault(rt: HostRuntime) {
     // One byte of the file with one program header is changed.
-    let bytes: [(usize, u8, ElfFault); 14] = [
-        (0, 0x7e, ElfFault::Magic),
-        (3, b'f', ElfFault::Magic),
-        (4, 2, ElfFault::Class),
-        (5, 2, ElfFault::Order),
-        (6, 0, ElfFault::Version),
-        (20, 2, ElfFault::Version),
-        (16, 3, ElfFault::Kind),
-        (18, 0xf4, ElfFault::Machine),
-        (42, 40, ElfFault::Headers),
-        (44, 2, ElfFault::Headers),
-        (28, 65, ElfFault::Headers),
-        (72, 8, ElfFault::Segment(0)),
-        (67, 0x80, ElfFault::OutsideRam(0)),
-        (24, 0x81, ElfFault::Entry),
+    let bytes: [(&str, usize, u8, ElfFault); 14] = [
+        ("the magic's first byte", 0, 0x7e, ElfFault::Magic),
+        ("the magic's last byte", 3, b'f', ElfFault::Magic),
+        ("64-bit objects", 4, 2, ElfFault::Class),
+        ("the highest byte first", 5, 2, ElfFault::Order),
+        ("the version in e_ident", 6, 0, ElfFault::Version),
+        ("e_version", 20, 2, ElfFault::Version),
+        ("a shared object", 16, 3, ElfFault::Kind),
+        ("another machine", 18, 0xf4, ElfFault::Machine),
+        ("a header's size", 42, 40, ElfFault::Headers),
+        ("more headers than the file has", 44, 2, ElfFault::Headers),
+        ("headers past the end", 28, 65, ElfFault::Headers),
+        (
+            "fewer bytes of memory than of the file",
+            72,
+            8,
+            ElfFault::Segment(0),
+        ),
+        ("outside RAM", 67, 0x80, ElfFault::OutsideRam(0)),
+        ("an odd entry", 24, 0x81, ElfFault::Entry),
     ];
-    for (at, byte, fault) in bytes {
+    for (name, at, byte, fault) in bytes {
         let mut file = ONE;
         if let Some(place) = file.get_mut(at) {
             *place = byte;
         }
-        assert_eq!(rt; fault_of(&file), Some(fault), "byte {at}");
+        assert_eq!(rt; fault_of(&file), Some(fault), "at {name}");
     }
 
     let mut file = ONE;
@@ -127,37 +132,84 @@ fn tells_the_first_fault(rt: HostRuntime) {
     assert_eq!(rt; fault_of(&file), Some(ElfFault::TooMany));
 
     // The file with one program header is cut off.
-    for (bytes, fault) in [
-        (0, ElfFault::Short),
-        (51, ElfFault::Short),
-        (52, ElfFault::Headers),
-        (83, ElfFault::Headers),
-        (84, ElfFault::Segment(0)),
-        (95, ElfFault::Segment(0)),
+    for (name, bytes, fault) in [
+        ("an empty file", 0, ElfFault::Short),
+        ("one byte short of a file header", 51, ElfFault::Short),
+        ("a file header alone", 52, ElfFault::Headers),
+        ("one byte short of the headers", 83, ElfFault::Headers),
+        ("headers alone", 84, ElfFault::Segment(0)),
+        ("one byte short of the segment", 95, ElfFault::Segment(0)),
     ] {
         assert_eq!(rt;
             fault_of(ONE.get(..bytes).unwrap_or(&[])),
             Some(fault),
-            "{bytes} bytes"
+            "at {name}"
         );
     }
 
     // The second program header has other values.
-    for (p_paddr, p_filesz, p_memsz, fault) in [
-        (0x001f_f000, 0, 4096, None),
-        (0x001f_f001, 0, 4096, Some(ElfFault::OutsideRam(1))),
-        (0x000f_ffff, 0, 4096, Some(ElfFault::OutsideRam(1))),
-        (0xffff_ffff, 0, 0, None),
-        (0x0010_0088, 4, 4, Some(ElfFault::Overlap(0, 1))),
-        (0x0010_008c, 4, 4, None),
-        (0x0010_007c, 4, 4, None),
-        (0x0010_007c, 5, 5, Some(ElfFault::Overlap(0, 1))),
-        (0x0010_0080, 4, 4, Some(ElfFault::Overlap(0, 1))),
-        (0x0010_0084, 0, 4, None),
+    for (name, p_paddr, p_filesz, p_memsz, fault) in [
+        ("the last page of RAM", 0x001f_f000, 0, 4096, None),
+        (
+            "one byte past RAM",
+            0x001f_f001,
+            0,
+            4096,
+            Some(ElfFault::OutsideRam(1)),
+        ),
+        (
+            "one byte before RAM",
+            0x000f_ffff,
+            0,
+            4096,
+            Some(ElfFault::OutsideRam(1)),
+        ),
+        ("empty, outside RAM", 0xffff_ffff, 0, 0, None),
+        (
+            "within the first segment",
+            0x0010_0088,
+            4,
+            4,
+            Some(ElfFault::Overlap(0, 1)),
+        ),
+        ("after the first segment", 0x0010_008c, 4, 4, None),
+        ("before the first segment", 0x0010_007c, 4, 4, None),
+        (
+            "into the first segment",
+            0x0010_007c,
+            5,
+            5,
+            Some(ElfFault::Overlap(0, 1)),
+        ),
+        (
+            "at the first segment's start",
+            0x0010_0080,
+            4,
+            4,
+            Some(ElfFault::Overlap(0, 1)),
+        ),
+        ("without file bytes", 0x0010_0084, 0, 4, None),
     ] {
         let file = with_second(p_paddr, p_filesz, p_memsz);
-        assert_eq!(rt; fault_of(&file), fault, "at {p_paddr}");
+        assert_eq!(rt; fault_of(&file), fault, "at {name}");
     }
+}
+
+// Headers of other types are no segments.
+#[test]
+fn tells_the_segments(rt: HostRuntime) -> Result<(), Fail> {
+    for (name, file, count) in [
+        ("one segment", ONE.as_slice(), 1),
+        ("two", &TWO, 2),
+        ("a linked file", &LINKED, 1),
+    ] {
+        let image = load(file, RAM)?;
+        assert_eq!(rt; image.segments(), count, "at {name}");
+        let (addr, bytes) = image.segment(0);
+        assert_eq!(rt; addr, 0x0010_0080, "at {name}");
+        assert!(rt; bytes.starts_with(&[0x37, 0x03, 0x02, 0x00]), "at {name}");
+    }
+    Ok(())
 }
 
 #[test]
@@ -174,34 +226,34 @@ fn reads_the_image(rt: HostRuntime) -> Result<(), Fail> {
         size: 0x1000,
     };
     let mut words = [0xffff_ffff; 1024];
-    for file in [ONE.as_slice(), &LINKED] {
+    for (name, file) in [("one segment", ONE.as_slice()), ("a linked file", &LINKED)] {
         load(file, ram)?.fill(&mut words);
-        assert_eq!(rt; &words[32..36], WORDS.as_slice());
-        assert_eq!(rt; words.iter().filter(|word| **word != 0).count(), 3);
+        assert_eq!(rt; &words[32..36], WORDS.as_slice(), "at {name}");
+        assert_eq!(rt;
+            words.iter().filter(|word| **word != 0).count(),
+            3,
+            "at {name}"
+        );
     }
 
     let image = load(&LINKED, RAM)?;
     assert_eq!(rt; image.entry(), 0x0010_0080);
     assert_eq!(rt; image.ram(), RAM);
 
-    for (base, size, valid) in [
-        (0x0010_0000, 0x0010_0000, true),
-        (0, 0x0002_0000, true),
-        (0, 0x0002_1000, false),
-        (0x0002_0000, 0x1000, false),
-        (0x0002_1000, 0x1000, true),
-        (0xff00_0000, 0x0100_0000, true),
-        (0xff00_1000, 0x0100_0000, false),
-        (0x0010_0000, 0x0100_1000, false),
-        (0x0010_0000, 0, false),
-        (0x0010_0800, 0x1000, false),
-        (0x0010_0000, 0x1800, false),
+    for (name, base, size, valid) in [
+        ("1 MiB", 0x0010_0000, 0x0010_0000, true),
+        ("up to the host's page", 0, 0x0002_0000, true),
+        ("into the host's page", 0, 0x0002_1000, false),
+        ("at the host's page", 0x0002_0000, 0x1000, false),
+        ("after the host's page", 0x0002_1000, 0x1000, true),
+        ("up to the last address", 0xff00_0000, 0x0100_0000, true),
+        ("past the last address", 0xff00_1000, 0x0100_0000, false),
+        ("more than 16 MiB", 0x0010_0000, 0x0100_1000, false),
+        ("empty", 0x0010_0000, 0, false),
+        ("a base within a page", 0x0010_0800, 0x1000, false),
+        ("half a page too many", 0x0010_0000, 0x1800, false),
     ] {
-        assert_eq!(rt;
-            Ram { base, size }.is_valid(),
-            valid,
-            "{size} bytes at {base}"
-        );
+        assert_eq!(rt; Ram { base, size }.is_valid(), valid, "at {name}");
     }
     Ok(())
 }

@@ -7,7 +7,8 @@ returns-in_default c = (
   λ never. absurd (cc),
   λ up.
       absurd
-      (not_ascending c.args.file.now c.loop-i.i c.loop-i.end c.read.result c.loop-i.invariant (omega arith) c.read.ensures
+      (not_ascending c.args.file.now c.loop-i.i c.loop-i.end c.read.result c.loop-i.invariant (omega arith)
+      c.read.ensures
       (sym c.end_after.ensures ∙ c.in_default.is) up),
 )
 

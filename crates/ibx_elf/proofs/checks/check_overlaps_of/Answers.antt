@@ -13,7 +13,12 @@ loop-j-init c = no_overlap_up_to c.args.file.now c.args.i
 pub returns-then-shares_address : goal.returns-then-shares_address
 unfolding first_overlap overlap_fault
 returns-then-shares_address c =
-    grind (arith, common_steps, first_below-found (overlap_fault c.args.file.now c.args.i) c.loop-j.j (e_phnum c.args.file.now) (Overlap c.args.i c.loop-j.j))
+    grind (
+      arith,
+      common_steps,
+      first_below-found (overlap_fault c.args.file.now c.args.i) c.loop-j.j
+          (e_phnum c.args.file.now) (Overlap c.args.i c.loop-j.j),
+    )
 
 pub returns-then-not-has_file_bytes : goal.returns-then-not-has_file_bytes
 returns-then-not-has_file_bytes c =

@@ -9,4 +9,9 @@ use Rattle.ibx_elf.proofs.checks.check_ranges.Goals as goal
 pub returns-then-leaves : goal.returns-then-leaves
 unfolding outside_fault
 returns-then-leaves c =
-    grind (arith, common_steps, first_below-found (outside_fault c.args.file.now c.args.ram) c.loop-i.i (e_phnum c.args.file.now) (OutsideRam c.loop-i.i))
+    grind (
+      arith,
+      common_steps,
+      first_below-found (outside_fault c.args.file.now c.args.ram) c.loop-i.i
+          (e_phnum c.args.file.now) (OutsideRam c.loop-i.i),
+    )

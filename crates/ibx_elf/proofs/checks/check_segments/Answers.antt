@@ -9,4 +9,9 @@ use Rattle.ibx_elf.proofs.checks.check_segments.Goals as goal
 pub returns-then-overruns : goal.returns-then-overruns
 unfolding segment_fault
 returns-then-overruns c =
-    grind (arith, common_steps, first_below-found (segment_fault c.args.file.now) c.loop-i.i (e_phnum c.args.file.now) (Segment c.loop-i.i))
+    grind (
+      arith,
+      common_steps,
+      first_below-found (segment_fault c.args.file.now) c.loop-i.i (e_phnum c.args.file.now)
+          (Segment c.loop-i.i),
+    )

@@ -15,26 +15,31 @@ read-header-requires-clause-within c =
 pub slice_bounds-bytes-end : goal.slice_bounds-bytes-end
 slice_bounds-bytes-end c =
     let some : has_file_bytes c.read-header.result ≡ true = sym c.has_file_bytes.ensures ∙ c.if-has_file_bytes.true in
-    let lies = lies_in c.args.file.now c.args.ram c.args.i c.read-header.result c.requires.well_formed c.requires.index c.read-header.ensures some in
+    let lies = lies_in c.args.file.now c.args.ram c.args.i c.read-header.result c.requires.well_formed c.requires.index
+    c.read-header.ensures some in
     omega (arith, lies.file_end)
 
 pub overflow_sub-header : goal.overflow_sub-header
 overflow_sub-header c =
     let some : has_file_bytes c.read-header.result ≡ true = sym c.has_file_bytes.ensures ∙ c.if-has_file_bytes.true in
-    (lies_in c.args.file.now c.args.ram c.args.i c.read-header.result c.requires.well_formed c.requires.index c.read-header.ensures some).from_base
+    (lies_in c.args.file.now c.args.ram c.args.i c.read-header.result c.requires.well_formed c.requires.index
+    c.read-header.ensures some).from_base
 
 pub put_bytes-requires : goal.put_bytes-requires
 put_bytes-requires c =
     let some : has_file_bytes c.read-header.result ≡ true = sym c.has_file_bytes.ensures ∙ c.if-has_file_bytes.true in
-    let lies = lies_in c.args.file.now c.args.ram c.args.i c.read-header.result c.requires.well_formed c.requires.index c.read-header.ensures some in
+    let lies = lies_in c.args.file.now c.args.ram c.args.i c.read-header.result c.requires.well_formed c.requires.index
+    c.read-header.ensures some in
     omega (arith, segment_bytes c.args.file.now c.args.ram c.read-header.result lies)
 
 pub returns-then-has_file_bytes : goal.returns-then-has_file_bytes
 returns-then-has_file_bytes c =
     let header = c.read-header.result in
     let some : has_file_bytes c.read-header.result ≡ true = sym c.has_file_bytes.ensures ∙ c.if-has_file_bytes.true in
-    let lies = lies_in c.args.file.now c.args.ram c.args.i header c.requires.well_formed c.requires.index c.read-header.ensures some in
-    filled-next c.args.file.now c.args.ram c.args.words.now c.put_bytes.new.words c.args.i header c.requires.well_formed c.requires.index
+    let lies = lies_in c.args.file.now c.args.ram c.args.i header c.requires.well_formed c.requires.index
+    c.read-header.ensures some in
+    filled-next c.args.file.now c.args.ram c.args.words.now c.put_bytes.new.words c.args.i header
+    c.requires.well_formed c.requires.index
     c.read-header.ensures some (omega arith)
     (put_part c.args.words.now _ header.p_offset header.p_filesz c.args.file.now c.put_bytes.new.words
     (segment_bytes c.args.file.now c.args.ram header lies) c.put_bytes.ensures.bytes)

@@ -36,8 +36,11 @@ returns-clause-bytes c =
     let at_1 = byte_of-image_of file ram (c.args.addr + 1) read in
     let at_2 = byte_of-image_of file ram (c.args.addr + 2) read in
     let at_3 = byte_of-image_of file ram (c.args.addr + 3) read in
-    let start : placed_byte file (c.args.addr + 0) ≡ placed_byte file c.args.addr = ap (placed_byte file) (omega arith) in
+    let start : placed_byte file (c.args.addr + 0) ≡ placed_byte file c.args.addr =
+    ap (placed_byte file) (omega arith) in
     rw (← c.self.view_is)
-    (four_bytes (λ k. image_byte (image_of file ram) (c.args.addr + k)) c.byte_at.result c.byte_at-2.result c.byte_at-3.result c.byte_at-4.result c.from_le_bytes.result
-    (c.byte_at.ensures ∙ sym start ∙ sym at_0) (c.byte_at-2.ensures ∙ sym at_1) (c.byte_at-3.ensures ∙ sym at_2) (c.byte_at-4.ensures ∙ sym at_3)
+    (four_bytes (λ k. image_byte (image_of file ram) (c.args.addr + k)) c.byte_at.result c.byte_at-2.result
+    c.byte_at-3.result c.byte_at-4.result c.from_le_bytes.result
+    (c.byte_at.ensures ∙ sym start ∙ sym at_0) (c.byte_at-2.ensures ∙ sym at_1) (c.byte_at-3.ensures ∙ sym at_2)
+    (c.byte_at-4.ensures ∙ sym at_3)
     c.byte_at.type_inv c.byte_at-2.type_inv c.byte_at-3.type_inv c.byte_at-4.type_inv c.from_le_bytes.ensures)

@@ -1,0 +1,19 @@
+mod Worked
+pub mod DataLines
+pub mod Decimals
+pub mod Decoded
+pub mod Denoting
+pub mod DigitLemmas
+pub mod Finding
+pub mod Fitting
+pub mod Lines
+pub mod Masks
+pub mod Operands
+pub mod Parts
+pub mod RoundTrip
+pub mod Shown
+pub mod Slots
+pub mod Texts
+pub mod Tokens
+pub mod Values
+pub mod Written

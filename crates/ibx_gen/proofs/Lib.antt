@@ -1,0 +1,4 @@
+pub mod Choices
+pub mod Bodies
+pub mod Decoded
+pub mod Images
