@@ -1,7 +1,7 @@
 #!/usr/bin/env bash
-# Runs compiled firmware to its halt and compares its console text with another emulator's: each NAME.elf beside a
-# NAME.console in firmware/, or in the folder that is the first argument. The last line is
-# `firmware: N passed, M failed`.
+# Runs compiled firmware to its halt and compares its console text with another emulator's, and its end line, which has
+# the cycles and the events, with another model's: each NAME.elf beside a NAME.console and a NAME.end in firmware/, or in
+# the folder that is the first argument. The last line is `firmware: N passed, M failed`.
 set -eu
 cd "$(dirname "$0")/.."
 folder=$(realpath -m "${1:-firmware}")
@@ -13,7 +13,8 @@ for elf in "$folder"/*.elf; do
     trace=$(mktemp)
     status=0
     (cd crates/ibx_cli && rt run -- run "$elf" >"$trace" 2>/dev/null) || status=$?
-    if [ "$status" = 0 ] && python3 firmware/console.py <"$trace" | cmp -s - "$folder/$name.console"; then
+    if [ "$status" = 0 ] && python3 firmware/console.py <"$trace" | cmp -s - "$folder/$name.console" &&
+        tail -n 1 "$trace" | cmp -s - "$folder/$name.end"; then
         echo "firmware: $name: $(tail -n 1 "$trace")"
         passed=$((passed + 1))
     else

@@ -55,6 +55,11 @@ def one(entry, addr):
     return file_header(entry, 1) + program_header(1, 84, addr, len(CODE), len(CODE), 7, 4) + CODE
 
 
+# Plans of a flip in the stage that is told, of one that isn't read, and of none.
+write("told.plan", b"flip 4 main id_word 15\n")
+write("unread.plan", b"flip 3 reg 31 0\n")
+write("none.plan", b"iwait 1 0\n")
+
 write("cut.elf", one(BASE, BASE)[:51])
 write("odd.elf", one(BASE + 1, BASE))
 write("far.elf", one(BASE, 0x00200000))
@@ -94,10 +99,10 @@ for i in range(1, COUNT):
 write("many.elf", file_header(BASE, COUNT) + b"".join(headers) + CODE)
 PYTHON
 
-first="R 0 00100080 00020337 x06=00020000
+first="R 2 00100080 00020337 x06=00020000
 "
-steps="${first}R 1 00100084 00100393 x07=00000001
-R 2 00100088 00732423 m00020008=00000001/4
+steps="${first}R 3 00100084 00100393 x07=00000001
+R 5 00100088 00732423 m00020008=00000001/4
 "
 passed=0
 failed=0
@@ -125,10 +130,10 @@ row() {
 to_full() { "$ibex" "$@" >/dev/full; }
 to_closed() { "$ibex" "$@" >&-; }
 
-row "a halt" 0 "${steps}E halt 3 3
+row "a halt" 0 "${steps}E halt 6 3
 " "" "$ibex" run store.elf
-row "a spent budget" 1 "${first}E budget 1 1
-" "" "$ibex" run store.elf --cycles 1
+row "a spent budget" 1 "${first}E budget 3 1
+" "" "$ibex" run store.elf --cycles 3
 row "no words" 2 "" "ibex: bad words
 " "$ibex"
 row "an empty word" 2 "" "ibex: bad words
@@ -151,10 +156,48 @@ row "an odd entry" 5 "" "ibex: odd.elf: elf fault 13
 " "$ibex" run odd.elf
 row "a long file" 5 "" "ibex: long.elf: too long
 " "$ibex" run long.elf
+row "a flip that is told" 8 "diff 4
+alert 6 internal
+" "" "$ibex" inject store.elf --plan told.plan --cycles 5
+row "a flip that isn't read" 0 "diff none
+alert none
+" "" "$ibex" inject store.elf --plan unread.plan --cycles 10
+row "a plan without a flip" 6 "" "ibex: none.plan: no flip
+" "$ibex" inject store.elf --plan none.plan
+row "a missing plan" 3 "" "ibex: cannot read missing.plan
+" "$ibex" inject store.elf --plan missing.plan
 row "a word that isn't UTF-8" 13 "" "" "$ibex" run $'store\xff.elf'
-row "a linker's file" 0 "${steps}E halt 3 3
+row "a linker's file" 0 "${steps}E halt 6 3
 " "" "$ibex" run linked.elf
-row "65,534 program headers" 0 "${steps}E halt 3 3
+printf 'flip 4 main id_word 15\n' >noticed.plan
+printf 'flip 3 reg 31 0\n' >unused.plan
+printf 'iwait 1 0\n' >unflipped.plan
+printf 'iwait 1 0\nflip 5 main id_word 32\n' >wide.plan
+printf '# no more\nflip 1 reg 1 1\nflip 2 reg 1 1\n' >twice.plan
+truncate -s $((4 * 1024 * 1024 + 1)) long.plan
+row "a flip that is noticed" 8 "diff 4
+alert 6 internal
+" "" "$ibex" inject store.elf --plan noticed.plan --cycles 5
+row "a flip that isn't used" 0 "diff none
+alert none
+" "" "$ibex" inject store.elf --plan unused.plan --cycles 10
+row "inject without a plan" 2 "" "ibex: bad words
+" "$ibex" inject store.elf
+row "a missing plan" 3 "" "ibex: cannot read missing.plan
+" "$ibex" inject store.elf --plan missing.plan
+row "a flip to a full output" 4 "" "ibex: cannot write
+" to_full inject store.elf --plan noticed.plan
+row "a refused file after its plan" 5 "" "ibex: cut.elf: elf fault 1
+" "$ibex" inject cut.elf --plan noticed.plan
+row "a plan without a flip" 6 "" "ibex: unflipped.plan: no flip
+" "$ibex" inject store.elf --plan unflipped.plan
+row "a plan's bit out of range" 6 "" "ibex: wide.plan: plan line 2 range
+" "$ibex" inject cut.elf --plan wide.plan
+row "a plan with two flips" 6 "" "ibex: twice.plan: plan line 3 flip
+" "$ibex" inject store.elf --plan twice.plan
+row "a long plan" 6 "" "ibex: long.plan: too long
+" "$ibex" inject store.elf --plan long.plan
+row "65,534 program headers" 0 "${steps}E halt 6 3
 " "" timeout 10 "$ibex" run many.elf --ram-size 0x1000000
 
 echo "statuses: $passed passed, $failed failed"

@@ -1,4 +1,5 @@
 pub mod Parts
 pub mod Found
 pub mod Numbers
+pub mod Options
 pub mod Command

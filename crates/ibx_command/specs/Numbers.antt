@@ -22,10 +22,6 @@ ram_base_rule = record { name = codes "--ram-base"; default = 0x00100000; least 
 abbrev pub ram_size_rule : NumberRule
 ram_size_rule = record { name = codes "--ram-size"; default = 1048576; least = 0; most = 0xffffffff }
 
--- the options of `run`
-abbrev pub run_options : List (List ℕ)
-run_options = cycles_rule.name ∷ ram_base_rule.name ∷ ram_size_rule.name ∷ []
-
 -- whether an option takes a number
 abbrev pub allows : NumberRule → ℕ → Bool
 allows rule n = nat_le rule.least n && nat_le n rule.most

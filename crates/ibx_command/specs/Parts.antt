@@ -54,3 +54,9 @@ files_of = filter_map file_of
 -- all values of the option of this name, in order
 abbrev pub values_of : List ℕ → List Piece → List (List ℕ)
 values_of name = filter_map (value_of name)
+
+-- the one word of a list, none where it has none or several
+abbrev pub only : List (List ℕ) → Option (List ℕ)
+only [] = None
+only (word ∷ []) = Some word
+only (word ∷ another ∷ more) = None

@@ -1,27 +1,29 @@
-ghost use Rattle.std.specs.Prelude.{◌≡◌, ◌≤◌, map, string_bytes, IfSome};
+ghost use Rattle.std.specs.Prelude.{◌≡◌, map, string_bytes, IfSome};
 ghost use Rattle.std.specs.Option.{option_map};
-ghost use Rattle.ibx_elf.specs.Ram.{IsRamRange};
-ghost use Rattle.ibx_command.specs.Parts.{pieces_of};
-ghost use Rattle.ibx_command.specs.Command.{meaning_of, IsInRange, IsPossible, checked_ram, ram_in, options_in, run_of, command_of};
+ghost use Rattle.ibx_command.specs.Parts.{only, files_of, pieces_of};
+ghost use Rattle.ibx_command.specs.Command.{meaning_of, IsPossible, run_of, inject_of, command_of};
 
-use crate::numbers::{CYCLES, RAM_BASE, RAM_SIZE, number_in};
+use crate::numbers::{CYCLES, RAM_BASE, RAM_SIZE};
+use crate::options::{MUL, Options, PLAN, options_in, plan_choice_in, plan_in};
 use crate::parts::{Found, Wanted, all_fit, find};
-use ibx_elf::Ram;
-
-/// What a run may be told beside its file.
-#[derive(Clone, Copy, Debug, PartialEq, Eq)]
-pub struct Options {
-    /// The most cycles that the run lasts: 1 to 1,000,000,000, by default 1,000,000.
-    pub cycles: u64,
-    /// The memory, by default 1 MiB from 0x0010_0000 on.
-    pub ram: Ram,
-}
 
 /// The words of the command `run FILE`.
 #[derive(Clone, Copy, Debug, PartialEq, Eq)]
 pub struct Run<'w> {
     /// The name of the file that is run.
     pub file: &'w str,
+    /// The name of the plan, if there is one.
+    pub plan: Option<&'w str>,
+    pub options: Options,
+}
+
+/// The words of the command `inject FILE --plan PLAN`.
+#[derive(Clone, Copy, Debug, PartialEq, Eq)]
+pub struct Inject<'w> {
+    /// The name of the file that is run.
+    pub file: &'w str,
+    /// The name of the plan, which has the flip.
+    pub plan: &'w str,
     pub options: Options,
 }
 
@@ -30,34 +32,18 @@ pub struct Run<'w> {
 pub enum Command<'w> {
     /// Run one file.
     Run(Run<'w>),
+    /// Run one file twice, with and without the flip of a plan.
+    Inject(Inject<'w>),
 }
 
-#[tactic(auto, unfolding(crate::specs::Command::checked_ram), using(ibx_elf::proofs::Rams::tested_alike))]
-fn checked_ram(ram: Ram) -> Option<Ram>
-    ensures value { result ≡ checked_ram ram }
-    ensures valid { IfSome result IsRamRange }
+/// The one file among the words of a command.
+fn file_in(words: &[String]) -> Option<&str>
+    ensures { option_map (λ file. file.now) result ≡ only (files_of (pieces_of (map string_bytes words.now))) }
 {
-    if ram.is_valid() { Some(ram) } else { None }
-}
-
-#[tactic(auto, unfolding(crate::specs::Command::ram_in))]
-fn ram_in(words: &[String]) -> Option<Ram>
-    ensures value { result ≡ ram_in (pieces_of (map string_bytes words.now)) }
-    ensures valid { IfSome result IsRamRange }
-{
-    let base = number_in(words, RAM_BASE)? as u32;
-    let size = number_in(words, RAM_SIZE)? as u32;
-    checked_ram(Ram { base, size })
-}
-
-#[tactic(auto, unfolding(crate::specs::Command::options_in))]
-fn options_in(words: &[String]) -> Option<Options>
-    ensures value { result ≡ options_in (pieces_of (map string_bytes words.now)) }
-    ensures valid { IfSome result IsInRange }
-{
-    let cycles = number_in(words, CYCLES)?;
-    let ram = ram_in(words)?;
-    Some(Options { cycles, ram })
+    match find(words, Wanted::AnyFile) {
+        Found::One(file) => Some(file),
+        _ => None,
+    }
 }
 
 #[tactic(auto, unfolding(crate::specs::Command::run_of))]
@@ -65,14 +51,41 @@ fn read_run(words: &[String]) -> Option<Command<'_>>
     ensures meaning { option_map meaning_of result ≡ run_of (pieces_of (map string_bytes words.now)) }
     ensures valid { IfSome result IsPossible }
 {
-    if !all_fit(words, &[CYCLES.name, RAM_BASE.name, RAM_SIZE.name]) {
+    if !all_fit(
+        words,
+        &[CYCLES.name, PLAN, MUL, RAM_BASE.name, RAM_SIZE.name],
+    ) {
         return None;
     }
-    let Found::One(file) = find(words, Wanted::AnyFile) else {
-        return None;
-    };
+    let file = file_in(words)?;
+    let plan = plan_choice_in(words)?;
     let options = options_in(words)?;
-    Some(Command::Run(Run { file, options }))
+    Some(Command::Run(Run {
+        file,
+        plan,
+        options,
+    }))
+}
+
+#[tactic(auto, unfolding(crate::specs::Command::inject_of))]
+fn read_inject(words: &[String]) -> Option<Command<'_>>
+    ensures meaning { option_map meaning_of result ≡ inject_of (pieces_of (map string_bytes words.now)) }
+    ensures valid { IfSome result IsPossible }
+{
+    if !all_fit(
+        words,
+        &[CYCLES.name, PLAN, MUL, RAM_BASE.name, RAM_SIZE.name],
+    ) {
+        return None;
+    }
+    let file = file_in(words)?;
+    let plan = plan_in(words)?;
+    let options = options_in(words)?;
+    Some(Command::Inject(Inject {
+        file,
+        plan,
+        options,
+    }))
 }
 
 /// Reads the words of a command line, without the program's name. None where they don't fit the grammar.
@@ -81,9 +94,21 @@ fn read_run(words: &[String]) -> Option<Command<'_>>
 /// value`, each at most once. A file is a word that isn't empty and doesn't begin with `-`, and a value doesn't
 /// begin with `-`. A number is 1 to 10 decimal digits, or `0x` and 1 to 8 hexadecimal digits.
 ///
-/// The one command is `run FILE`. Its options are `--cycles` from 1 to 1,000,000,000, `--ram-base`, a multiple of
-/// 4,096, and `--ram-size`, a multiple of 4,096 from 4,096 to 16,777,216. The RAM ends at or below 2^32 and doesn't
-/// meet the host page, the bytes from 0x0002_0000 to 0x0002_0FFF. (All of this is our own rule.)
+/// | command | options |
+/// |---|---|
+/// | `run FILE` | all of them |
+/// | `inject FILE` | all of them; `--plan` has to be given |
+///
+/// | option | value |
+/// |---|---|
+/// | `--cycles` | 1 to 1,000,000,000 |
+/// | `--plan` | the name of a file, which isn't empty |
+/// | `--mul` | `single`, `fast` or `slow` |
+/// | `--ram-base` | a multiple of 4,096 |
+/// | `--ram-size` | a multiple of 4,096 from 4,096 to 16,777,216 |
+///
+/// The RAM ends at or below 2^32 and doesn't meet the host page, the bytes from 0x0002_0000 to 0x0002_0FFF. (All of
+/// this is our own rule.)
 #[tactic(auto, unfolding(crate::specs::Command::command_of))]
 pub fn read_words(words: &[String]) -> Option<Command<'_>>
     ensures meaning { option_map meaning_of result ≡ command_of (map string_bytes words.now) }
@@ -92,6 +117,7 @@ pub fn read_words(words: &[String]) -> Option<Command<'_>>
     let (name, rest) = words.split_first()?;
     match name.as_str() {
         "run" => read_run(rest),
+        "inject" => read_inject(rest),
         _ => None,
     }
 }

@@ -3,9 +3,11 @@
 
 mod command;
 mod numbers;
+mod options;
 mod parts;
 
-pub use command::{Command, Options, Run, read_words};
+pub use command::{Command, Inject, Run, read_words};
+pub use options::Options;
 
 #[cfg(test)]
 mod tests;

@@ -1,5 +1,6 @@
-use crate::{Command, Options, Run, read_words};
+use crate::{Command, Inject, Options, Run, read_words};
 use ibx_elf::Ram;
+use ibx_isa::MulKind;
 use std::alloc::Global;
 use std::test::Fail;
 
@@ -21,9 +22,30 @@ fn words_of(alloc: Global, line: &str) -> Result<Vec<String>, Fail> {
 fn run(file: &str, cycles: u64, base: u32, size: u32) -> Command<'_> {
     Command::Run(Run {
         file,
+        plan: None,
         options: Options {
             cycles,
             ram: Ram { base, size },
+            mul: MulKind::Fast,
+        },
+    })
+}
+
+fn inject<'w>(
+    file: &'w str,
+    plan: &'w str,
+    cycles: u64,
+    mul: MulKind,
+    base: u32,
+    size: u32,
+) -> Command<'w> {
+    Command::Inject(Inject {
+        file,
+        plan,
+        options: Options {
+            cycles,
+            ram: Ram { base, size },
+            mul,
         },
     })
 }
@@ -33,6 +55,21 @@ fn reads_what_fits(rt: HostRuntime) -> Result<(), Fail> {
     let rows = [
         ("run a", run("a", CYCLES, BASE, SIZE)),
         ("run a --cycles 1", run("a", 1, BASE, SIZE)),
+        (
+            "run a --mul slow --plan p",
+            Command::Run(Run {
+                file: "a",
+                plan: Some("p"),
+                options: Options {
+                    cycles: CYCLES,
+                    ram: Ram {
+                        base: BASE,
+                        size: SIZE,
+                    },
+                    mul: MulKind::Slow,
+                },
+            }),
+        ),
         (
             "run --cycles 1000000000 a.elf",
             run("a.elf", 1_000_000_000, BASE, SIZE),
@@ -55,6 +92,26 @@ fn reads_what_fits(rt: HostRuntime) -> Result<(), Fail> {
         (
             "run --ram-size 16777216 --cycles 2 --ram-base 0x80000000 b",
             run("b", 2, 0x8000_0000, 16_777_216),
+        ),
+        (
+            "inject a --plan p",
+            inject("a", "p", CYCLES, MulKind::Fast, BASE, SIZE),
+        ),
+        (
+            "inject --plan a a",
+            inject("a", "a", CYCLES, MulKind::Fast, BASE, SIZE),
+        ),
+        (
+            "inject --mul slow --plan p a --cycles 5",
+            inject("a", "p", 5, MulKind::Slow, BASE, SIZE),
+        ),
+        (
+            "inject a --mul single --plan p",
+            inject("a", "p", CYCLES, MulKind::Single, BASE, SIZE),
+        ),
+        (
+            "inject a --mul fast --ram-size 4096 --plan p --ram-base 0x21000",
+            inject("a", "p", CYCLES, MulKind::Fast, 0x0002_1000, 4_096),
         ),
     ];
     for (line, command) in rows {
@@ -90,8 +147,11 @@ fn refuses_what_does_not_fit(rt: HostRuntime) -> Result<(), Fail> {
         "run a --cycles 0X10",
         "run a --cycles 0x100000000",
         "run a --cycle 5",
-        "run a --mul fast",
-        "run a --plan p",
+        "run a --mul quick",
+        "run a --mul fast --mul fast",
+        "run a --plan",
+        "run a --plan ",
+        "run a --plan p --plan p",
         "run a --ram-base 0",
         "run a --ram-base 0 --ram-size 0x21000",
         "run a --ram-base 0x20000",
@@ -100,6 +160,20 @@ fn refuses_what_does_not_fit(rt: HostRuntime) -> Result<(), Fail> {
         "run a --ram-base 4294967296",
         "run a --ram-size 0",
         "run a --ram-size 16781312",
+        "inject",
+        "inject --plan p",
+        "inject a --plan",
+        "inject a --plan ",
+        "inject a --plan -p",
+        "inject a --plan p --plan p",
+        "inject a b --plan p",
+        "inject a --plan p --mul",
+        "inject a --plan p --mul quick",
+        "inject a --plan p --mul Fast",
+        "inject a --plan p --mul fast --mul fast",
+        "inject a --plan p --cycles 0",
+        "inject a --plan p --ram-base 0",
+        "inject a --plan p --seed 1",
     ];
     for line in lines {
         let words = words_of(rt.alloc(), line)?;

@@ -67,6 +67,10 @@ pub cut_last : {before now after : Option (List ℕ)} {piece whole : List ℕ} �
 cut_last {before} {now} {after} {piece} {whole} so_far took =
     cut piece [] (record { gained = so_far.gained; taken = so_far.taken; text = ap (λ (l : List ℕ). so_far.gained ++ l) (append-nil piece) ∙ so_far.text }) took
 
+-- two pieces, of which the second is cut short
+pub cut_back : (before one after : Option (List ℕ)) (a b : List ℕ) → one ≡ with_more before a → TookPrefix one b after → TookPrefix before (a ++ b) after
+cut_back before one after a b first took = cut_last (more a b (begun before (a ++ b)) first) took
+
 -- three pieces, of which the second is cut short
 pub cut_second : (before one after : Option (List ℕ)) (a b c : List ℕ) → one ≡ with_more before a → TookPrefix one b after → TookPrefix before (a ++ b ++ c) after
 cut_second before one after a b c first took =

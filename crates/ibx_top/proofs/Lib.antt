@@ -1,3 +1,9 @@
 pub mod Gains
-pub mod Running
+pub mod Systems
+pub mod Answers
 pub mod Outcomes
+pub mod Drives
+pub mod Seals
+pub mod TimedStories
+pub mod PlanWords
+pub mod TwinTimes

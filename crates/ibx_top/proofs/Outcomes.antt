@@ -1,34 +1,19 @@
 -- Ends and answers.
-use Rattle.std.proofs.Common.{◌≡◌, ℕ, ◌+◌, ◌<◌, ◌≤◌, Bool, true, false, List, [], ◌∷◌, Option, Some, None, length, replicate, refl, sym, ap, ◌∙◌, subst, arith}
-use Rattle.std.specs.Prelude.{IsSomeAnd, nat_lt}
+use Rattle.std.proofs.Common.{◌≡◌, ℕ, ◌+◌, ◌<◌, ◌≤◌, ◌⊎◌, inl, inr, true, false, List, [], ◌∷◌, Option, Some, None, length, replicate, refl, sym, ap, ◌∙◌, subst, arith}
+use Rattle.std.specs.Prelude.{IsSome, IsSomeAnd, MatchOption}
 use Rattle.std.proofs.lemmas.List.{length-replicate}
-use Rattle.std.proofs.lemmas.Bool.Decides.{nat_tests}
-use Rattle.ibx_base.specs.Files.{Contents, Begun, IsContent, IsLonger, IsBegunAs}
-use Rattle.ibx_base.specs.Sinks.{with_more, TookPrefix}
-use Rattle.ibx_elf.specs.declared.fault.ElfFault.{ElfFault}
-use Rattle.ibx_elf.specs.Faults.{first_fault}
-use Rattle.ibx_elf.specs.Image.{image_of}
-use Rattle.ibx_command.specs.declared.command.Options.{Options}
-use Rattle.ibx_command.specs.Command.{Meaning, Running}
-use Rattle.ibx_story.specs.declared.end.StoryEnd.{StoryEnd}
-use Rattle.ibx_story.specs.declared.end.StoryEnd.TheVariants.{Halted, Spent, NotBuilt}
+use Rattle.ibx_base.specs.Counts.{Rose}
+use Rattle.ibx_base.specs.Files.{Contents, Begun, IsContent, IsLonger, IsBegunAs, CountsMiss}
+use Rattle.ibx_base.specs.Sinks.{with_more}
+use Rattle.ibx_command.specs.Command.{Meaning, Running, Injecting}
 use Rattle.ibx_top.specs.declared.outcome.Outcome.{Outcome}
-use Rattle.ibx_top.specs.declared.outcome.Outcome.TheVariants.{Ran, BadWords, CannotRead, CannotWrite, TooLong, Refused, OutOfMemory}
-use Rattle.ibx_story.specs.Stories.{Story, story_of}
-use Rattle.ibx_top.specs.ErrLines.{cannot_read_line, too_long_line, fault_line}
-use Rattle.ibx_top.specs.Answers.{Answer, ending_code, refusal, story_answer, file_limit, answer_by, answer_of, Gives, IfRun, IsOneOf, IsCutShort}
-use Rattle.ibx_top.specs.Outcomes.{code_of, err_line_of, IfUnread, IfAnswered, IfUnwritten, Settles, IsCut, Prints, PrintsFor, ReadsFile}
+use Rattle.ibx_top.specs.declared.outcome.Outcome.TheVariants.{Ran, Injected, BadWords, CannotRead, CannotWrite, TooLong, Refused, PlanTooLong, PlanRefused, OutOfMemory}
+use Rattle.ibx_top.specs.Answers.{Answer, IfInject, Notices, refusal, IsAnswer, codes_of, IsOneOf, IsThere, AreThere, IsAmong, Gives, IsCutShort}
+use Rattle.ibx_top.specs.Outcomes.{EndsNoticed, code_of, err_line_of, seal_in, IfUnread, IsPastReading, IfAnswered, IfUnwritten, Settles, Prints, Reads, Fits}
 use Rattle.ibx_top.proofs.Gains.{none_more}
+use Rattle.ibx_top.proofs.Answers.{answer_codes, one_answer}
 
--- a weaker fact about an end of one kind
-if_unwritten-weaker : (end : Outcome) (P Q : Type 0) → (P → Q) → IfUnwritten end P → IfUnwritten end Q
-if_unwritten-weaker CannotWrite P Q f h = f h
-if_unwritten-weaker (Ran ending) P Q f h = tt
-if_unwritten-weaker (TooLong name) P Q f h = tt
-if_unwritten-weaker (Refused name fault) P Q f h = tt
-if_unwritten-weaker BadWords P Q f h = tt
-if_unwritten-weaker (CannotRead name) P Q f h = tt
-if_unwritten-weaker OutOfMemory P Q f h = tt
+-- ---- longer than a limit
 
 -- there are more bytes than any limit
 some_longer : (limit : ℕ) → (bytes : List ℕ) × (limit < length bytes)
@@ -44,175 +29,192 @@ pub longer_content : (told : Option Contents) (name : List ℕ) (limit : ℕ) �
 longer_content None name limit h = let (bytes, more) = some_longer limit in (bytes, (tt, more))
 longer_content (Some contents) name limit h = longer_at contents name limit (contents name) refl h
 
-is_long : (limit : ℕ) (bytes : List ℕ) → limit < length bytes → nat_lt limit (length bytes) ≡ true
-is_long limit bytes h = grind (arith, nat_tests)
+-- ---- by the end
 
-is_short : (limit : ℕ) (bytes : List ℕ) → length bytes ≤ limit → nat_lt limit (length bytes) ≡ false
-is_short limit bytes h = grind (arith, nat_tests)
-
--- the answers
-pub too_long_answer : (name : List ℕ) (options : Options) (bytes : List ℕ) → file_limit < length bytes → answer_of name options bytes ≡ refusal (too_long_line name)
-unfolding answer_of answer_by
-too_long_answer name options bytes h =
-    ap (λ (b : Bool). answer_by name options.cycles (story_of (image_of bytes options.ram) options.cycles) b (first_fault bytes options.ram)) (is_long file_limit bytes h)
-
-pub refused_answer : (name : List ℕ) (options : Options) (bytes : List ℕ) (fault : ElfFault) → length bytes ≤ file_limit → first_fault bytes options.ram ≡ Some fault
-    → answer_of name options bytes ≡ refusal (fault_line name fault)
-unfolding answer_of answer_by
-refused_answer name options bytes fault h e =
-    ap (λ (b : Bool). answer_by name options.cycles (story_of (image_of bytes options.ram) options.cycles) b (first_fault bytes options.ram)) (is_short file_limit bytes h)
-    ∙ ap (answer_by name options.cycles (story_of (image_of bytes options.ram) options.cycles) false) e
-
-pub run_answer : (name : List ℕ) (options : Options) (bytes : List ℕ) → length bytes ≤ file_limit → first_fault bytes options.ram ≡ None
-    → answer_of name options bytes ≡ story_answer options.cycles (story_of (image_of bytes options.ram) options.cycles)
-unfolding answer_of answer_by
-run_answer name options bytes h e =
-    ap (λ (b : Bool). answer_by name options.cycles (story_of (image_of bytes options.ram) options.cycles) b (first_fault bytes options.ram)) (is_short file_limit bytes h)
-    ∙ ap (answer_by name options.cycles (story_of (image_of bytes options.ram) options.cycles) false) e
-
-cut_by : (name : List ℕ) (budget : ℕ) (story : Story) (long : Bool) (fault : Option ElfFault) → ((answer_by name budget story long fault).code ≡ 5 → ⊥)
-    → (long ≡ false) × (fault ≡ None) × (answer_by name budget story long fault ≡ story_answer budget story)
-unfolding answer_by
-cut_by name budget story true fault h = absurd (h refl)
-cut_by name budget story false (Some fault) h = absurd (h refl)
-cut_by name budget story false None h = (refl, refl, refl)
-
-not_long : (limit : ℕ) (bytes : List ℕ) → nat_lt limit (length bytes) ≡ false → length bytes ≤ limit
-not_long limit bytes h = grind (arith, nat_tests)
-
--- an output that was cut short is that of a run
-pub is_cut_short : (name : List ℕ) (options : Options) (bytes : List ℕ) (before after : Option (List ℕ)) → IsCut (answer_of name options bytes) before after → IsCutShort options bytes before after
-unfolding answer_of
-is_cut_short name options bytes before after cut =
-    let story : Story = story_of (image_of bytes options.ram) options.cycles in
-    let facts = cut_by name options.cycles story (nat_lt file_limit (length bytes)) (first_fault bytes options.ram) cut.runs in
-    record {
-      fits = not_long file_limit bytes facts.0;
-      well_formed = facts.1;
-      text = subst (λ (a : Answer). TookPrefix before a.text after) facts.2 cut.text;
-    }
-
-runs_by : (budget : ℕ) (story : Story) (ending : StoryEnd) → story.ending ≡ ending → (story_answer budget story).code ≡ 5 → ⊥
-runs_by budget story Halted e h = absurd (let code : ending_code story.ending ≡ 0 = ap ending_code e in omega arith)
-runs_by budget story Spent e h = absurd (let code : ending_code story.ending ≡ 1 = ap ending_code e in omega arith)
-runs_by budget story NotBuilt e h = absurd (let code : ending_code story.ending ≡ 10 = ap ending_code e in omega arith)
-
--- a run is no refusal
-pub runs : (budget : ℕ) (story : Story) → (story_answer budget story).code ≡ 5 → ⊥
-runs budget story = runs_by budget story story.ending refl
-
+-- a weaker fact about an end of one kind
 if_answered-weaker : (outcome : Outcome) (P Q : Type 0) → (P → Q) → IfAnswered outcome P → IfAnswered outcome Q
-if_answered-weaker (Ran ending) P Q f h = f h
+if_answered-weaker (Ran halted seal) P Q f h = f h
+if_answered-weaker (Injected alert) P Q f h = f h
 if_answered-weaker (TooLong name) P Q f h = f h
 if_answered-weaker (Refused name fault) P Q f h = f h
+if_answered-weaker (PlanTooLong name) P Q f h = f h
+if_answered-weaker (PlanRefused name fault) P Q f h = f h
 if_answered-weaker CannotWrite P Q f h = tt
 if_answered-weaker BadWords P Q f h = tt
 if_answered-weaker (CannotRead name) P Q f h = tt
 if_answered-weaker OutOfMemory P Q f h = tt
 
--- an answer to these bytes is one to some bytes
-pub prints_for : {K : Type 0} (taken : K → Option (List ℕ)) (faults : K → ℕ) (IsFile : List ℕ → Type 0) (answer : List ℕ → Answer) (outcome : Outcome) (before after : K) (bytes : List ℕ)
-    → IsFile bytes → Prints taken faults (answer bytes) outcome before after → PrintsFor taken faults IsFile answer outcome before after
-prints_for {K} taken faults IsFile answer outcome before after bytes is p = record {
-  answered = if_answered-weaker outcome (Settles (answer bytes) outcome (taken before) (taken after))
-      ((bytes : List ℕ) × (IsFile bytes × Settles (answer bytes) outcome (taken before) (taken after))) (λ h. (bytes, (is, h))) p.answered;
+if_unwritten-weaker : (outcome : Outcome) (P Q : Type 0) → (P → Q) → IfUnwritten outcome P → IfUnwritten outcome Q
+if_unwritten-weaker CannotWrite P Q f h = f h
+if_unwritten-weaker (Ran halted seal) P Q f h = tt
+if_unwritten-weaker (Injected alert) P Q f h = tt
+if_unwritten-weaker (TooLong name) P Q f h = tt
+if_unwritten-weaker (Refused name fault) P Q f h = tt
+if_unwritten-weaker (PlanTooLong name) P Q f h = tt
+if_unwritten-weaker (PlanRefused name fault) P Q f h = tt
+if_unwritten-weaker BadWords P Q f h = tt
+if_unwritten-weaker (CannotRead name) P Q f h = tt
+if_unwritten-weaker OutOfMemory P Q f h = tt
+
+if_unread-weaker : (outcome : Outcome) (P Q : List ℕ → Type 0) → ((said : List ℕ) → P said → Q said) → IfUnread outcome P → IfUnread outcome Q
+if_unread-weaker (CannotRead name) P Q f h = f name.now h
+if_unread-weaker CannotWrite P Q f h = tt
+if_unread-weaker (Ran halted seal) P Q f h = tt
+if_unread-weaker (Injected alert) P Q f h = tt
+if_unread-weaker (TooLong name) P Q f h = tt
+if_unread-weaker (Refused name fault) P Q f h = tt
+if_unread-weaker (PlanTooLong name) P Q f h = tt
+if_unread-weaker (PlanRefused name fault) P Q f h = tt
+if_unread-weaker BadWords P Q f h = tt
+if_unread-weaker OutOfMemory P Q f h = tt
+
+no_unread : (outcome : Outcome) (P : List ℕ → Type 0) → IsPastReading outcome → IfUnread outcome P
+no_unread (CannotRead name) P past = absurd past
+no_unread BadWords P past = absurd past
+no_unread CannotWrite P past = tt
+no_unread (Ran halted seal) P past = tt
+no_unread (Injected alert) P past = tt
+no_unread (TooLong name) P past = tt
+no_unread (Refused name fault) P past = tt
+no_unread (PlanTooLong name) P past = tt
+no_unread (PlanRefused name fault) P past = tt
+no_unread OutOfMemory P past = tt
+
+-- a call with fewer answers has these too
+pub prints_weaker : {K : Type 0} (taken : K → Option (List ℕ)) (faults : K → ℕ) (P Q : Answer → Type 0) (outcome : Outcome) (before after : K) → ((answer : Answer) → P answer → Q answer)
+    → Prints taken faults P outcome before after → Prints taken faults Q outcome before after
+prints_weaker {K} taken faults P Q outcome before after f p = record {
+  answered = if_answered-weaker outcome ((answer : Answer) × (P answer × Settles answer outcome (taken before) (taken after)))
+      ((answer : Answer) × (Q answer × Settles answer outcome (taken before) (taken after))) (λ h. let (answer, (is, settles)) = h in (answer, (f answer is, settles))) p.answered;
   write_fault = p.write_fault;
-  cut_short = if_unwritten-weaker outcome (IsCut (answer bytes) (taken before) (taken after))
-      ((bytes : List ℕ) × (IsFile bytes × IsCut (answer bytes) (taken before) (taken after))) (λ h. (bytes, (is, h))) p.cut_short;
+  cut_short = if_unwritten-weaker outcome ((answer : Answer) × (P answer × IsCutShort answer (taken before) (taken after)))
+      ((answer : Answer) × (Q answer × IsCutShort answer (taken before) (taken after))) (λ h. let (answer, (is, cut)) = h in (answer, (f answer is, cut))) p.cut_short;
   silent = p.silent;
 }
 
--- a weaker fact about what the words name
-pub if_run-weaker : (command : Option Meaning) (P Q : List ℕ → Options → Type 0) → ((name : List ℕ) (options : Options) → P name options → Q name options) → IfRun command P → IfRun command Q
-if_run-weaker (Some (Running name options)) P Q f h = f name options h
-if_run-weaker _ P Q f h = tt
-
--- status 4 is that of an output that can't be written
-pub unwritten_by : (outcome : Outcome) (P : Type 0) → code_of outcome ≡ 4 → IfUnwritten outcome P → P
-unwritten_by CannotWrite P e h = h
-unwritten_by (Ran Halted) P e h = absurd (omega arith)
-unwritten_by (Ran Spent) P e h = absurd (omega arith)
-unwritten_by (Ran NotBuilt) P e h = absurd (omega arith)
-unwritten_by BadWords P e h = absurd (omega arith)
-unwritten_by (CannotRead name) P e h = absurd (omega arith)
-unwritten_by (TooLong name) P e h = absurd (omega arith)
-unwritten_by (Refused name fault) P e h = absurd (omega arith)
-unwritten_by OutOfMemory P e h = absurd (omega arith)
-
 -- an end that wrote nothing is a refusal
-pub settles_refusal : (answer : Answer) (end : Outcome) (line : List ℕ) (before : Option (List ℕ)) → answer ≡ refusal line → code_of end ≡ 5 → err_line_of end ≡ line → Settles answer end before before
-settles_refusal answer end line before e code said = record {
-  code = code ∙ sym (ap (λ (a : Answer). a.code) e);
+pub settles_refusal : (code : ℕ) (answer : Answer) (end : Outcome) (line : List ℕ) (before : Option (List ℕ)) → answer ≡ refusal code line → code_of end ≡ code → err_line_of end ≡ line → seal_in end ≡ 0 → Settles answer end before before
+settles_refusal code answer end line before e is said unsealed = record {
+  seal = unsealed ∙ sym (ap (λ (a : Answer). a.seal) e);
+  code = is ∙ sym (ap (λ (a : Answer). a.code) e);
   line = said ∙ sym (ap (λ (a : Answer). a.line) e);
   text = none_more before ∙ ap (λ (a : Answer). with_more before a.text) (sym e);
 }
 
--- status 3 is that of a file that can't be read, and its line has the file's name
-pub unread_by : (end : Outcome) (P : List ℕ → Type 0) → code_of end ≡ 3 → IfUnread end P → (name : List ℕ) × (P name × (err_line_of end ≡ cannot_read_line name))
-unread_by (Ran Halted) P e h = absurd (omega arith)
-unread_by (Ran Spent) P e h = absurd (omega arith)
-unread_by (Ran NotBuilt) P e h = absurd (omega arith)
-unread_by BadWords P e h = absurd (omega arith)
-unread_by (CannotRead name) P e h = (name.now, (h, refl))
-unread_by CannotWrite P e h = absurd (omega arith)
-unread_by (TooLong name) P e h = absurd (omega arith)
-unread_by (Refused name fault) P e h = absurd (omega arith)
-unread_by OutOfMemory P e h = absurd (omega arith)
+-- ---- a file read before others
 
--- the name on the error output is that of the words' file
-unread_for : {F : Type 0} (contents : F → Option Contents) (begun : F → Option Begun) (faults misses : F → ℕ) (outcome : Outcome) (before after : F) (name : List ℕ) (S : List ℕ → Type 0) → code_of outcome ≡ 3
-    → S (err_line_of outcome) → ReadsFile contents begun faults misses name outcome before after → IsBegunAs name (begun after) × S (cannot_read_line name)
-unread_for {F} contents begun faults misses outcome before after name S e line r =
-    let (said, (is, line_is)) = unread_by outcome (λ (said : List ℕ). (said ≡ name) × IsBegunAs name (begun after)) e r.unread in
-    (is.1, subst (λ (n : List ℕ). S (cannot_read_line n)) is.0 (subst S line_is line))
+rose_later : (before middle after : ℕ) → before ≤ middle → Rose middle after → Rose before after
+rose_later before middle after h rose = omega arith
 
-pub unread_run : {F : Type 0} (command : Option Meaning) (contents : F → Option Contents) (begun : F → Option Begun) (faults misses : F → ℕ) (outcome : Outcome) (before after : F) (S : List ℕ → Type 0) → code_of outcome ≡ 3
-    → S (err_line_of outcome) → IfRun command (λ name options. ReadsFile contents begun faults misses name outcome before after)
-    → IfRun command (λ name options. IsBegunAs name (begun after) × S (cannot_read_line name))
-unread_run {F} command contents begun faults misses outcome before after S e line =
-    if_run-weaker command (λ name options. ReadsFile contents begun faults misses name outcome before after) (λ name options. IsBegunAs name (begun after) × S (cannot_read_line name))
-    (λ name options. unread_for contents begun faults misses outcome before after name S e line)
+miss_stays_at : (before after : ℕ) (content : Option (List ℕ)) → MatchOption content (Rose before after) (λ _. after ≡ before) → IsSome content → after ≡ before
+miss_stays_at before after None h there = let no : false ≡ true = there in cc
+miss_stays_at before after (Some bytes) h there = h
 
--- statuses 0, 1, 5 and 10 are those of a file that was answered
-pub answered_by : (end : Outcome) (P : Type 0) → IsOneOf (0 ∷ 1 ∷ 5 ∷ 10 ∷ []) (code_of end) → IfAnswered end P → P
-answered_by (Ran Halted) P e h = h
-answered_by (Ran Spent) P e h = h
-answered_by (Ran NotBuilt) P e h = h
-answered_by BadWords P e h = absurd cc
-answered_by (CannotRead name) P e h = absurd cc
-answered_by CannotWrite P e h = absurd cc
-answered_by (TooLong name) P e h = h
-answered_by (Refused name fault) P e h = h
-answered_by OutOfMemory P e h = absurd cc
+miss_stays : (told : Option Contents) (name : List ℕ) (before after : ℕ) → CountsMiss told name before after → IsThere told name → after ≡ before
+miss_stays None name before after h there = h
+miss_stays (Some contents) name before after h there = miss_stays_at before after (contents name) h there
 
--- an end that is an answer, reported
-gives_for : {K : Type 0} (taken : K → Option (List ℕ)) (faults : K → ℕ) (IsFile : List ℕ → Type 0) (answer : List ℕ → Answer) (outcome : Outcome) (code : ℕ) (before after : K) (S : List ℕ → Type 0) → code ≡ code_of outcome
-    → S (err_line_of outcome) → IsOneOf (0 ∷ 1 ∷ 5 ∷ 10 ∷ []) (code_of outcome) → PrintsFor taken faults IsFile answer outcome before after
-    → (bytes : List ℕ) × (IsFile bytes × (Gives (answer bytes) code (taken before) (taken after) × S (answer bytes).line))
-gives_for {K} taken faults IsFile answer outcome code before after S e line one p =
-    let (bytes, (is, settles)) = answered_by outcome ((bytes : List ℕ) × (IsFile bytes × Settles (answer bytes) outcome (taken before) (taken after))) one p.answered in
-    (bytes, (is, (record { status = e ∙ settles.code; text = settles.text }, subst S settles.line line)))
+-- what is left of the files by a call that reads one and then does what leaves them so
+pub reads_after : {F : Type 0} (contents : F → Option Contents) (begun : F → Option Begun) (faults misses : F → ℕ) (name : List ℕ) (names : List (List ℕ)) (outcome : Outcome) (before middle after : F)
+    → contents middle ≡ contents before → faults before ≤ faults middle → CountsMiss (contents before) name (misses before) (misses middle)
+    → Reads contents begun faults misses names outcome middle after → Reads contents begun faults misses (name ∷ names) outcome before after
+reads_after {F} contents begun faults misses name names outcome before middle after kept falls missed r = record {
+  kept = r.kept ∙ kept;
+  misses_stay = λ there. r.misses_stay (subst (λ (told : Option Contents). AreThere told names) (sym kept) there.1) ∙ miss_stays (contents before) name (misses before) (misses middle) missed there.0;
+  read_fault = if_unread-weaker outcome (λ _. Rose (faults middle) (faults after)) (λ _. Rose (faults before) (faults after)) (λ said rose. rose_later (faults before) (faults middle) (faults after) falls rose) r.read_fault;
+  unread = if_unread-weaker outcome (λ said. IsAmong names said × IsBegunAs said (begun after)) (λ said. IsAmong (name ∷ names) said × IsBegunAs said (begun after)) (λ said h. (inr h.0, h.1)) r.unread;
+}
 
-pub answers_run : {K : Type 0} (command : Option Meaning) (told : Option Contents) (taken : K → Option (List ℕ)) (faults : K → ℕ) (outcome : Outcome) (code : ℕ) (before after : K) (S : List ℕ → Type 0) → code ≡ code_of outcome
-    → S (err_line_of outcome) → IsOneOf (0 ∷ 1 ∷ 5 ∷ 10 ∷ []) (code_of outcome)
-    → IfRun command (λ name options. PrintsFor taken faults (IsContent told name) (answer_of name options) outcome before after)
-    → IfRun command (λ name options. (bytes : List ℕ) × (IsContent told name bytes × (Gives (answer_of name options bytes) code (taken before) (taken after) × S (answer_of name options bytes).line)))
-answers_run {K} command told taken faults outcome code before after S e line one =
-    if_run-weaker command (λ name options. PrintsFor taken faults (IsContent told name) (answer_of name options) outcome before after)
-    (λ name options. (bytes : List ℕ) × (IsContent told name bytes × (Gives (answer_of name options bytes) code (taken before) (taken after) × S (answer_of name options bytes).line)))
-    (λ name options. gives_for taken faults (IsContent told name) (answer_of name options) outcome code before after S e line one)
+no_reads : {F : Type 0} (contents : F → Option Contents) (begun : F → Option Begun) (faults misses : F → ℕ) (outcome : Outcome) (files : F) → IsPastReading outcome → Reads contents begun faults misses [] outcome files files
+no_reads {F} contents begun faults misses outcome files past = record { kept = refl; misses_stay = λ _. refl; read_fault = no_unread outcome (λ _. Rose (faults files) (faults files)) past; unread = no_unread outcome (λ said. IsAmong [] said × IsBegunAs said (begun files)) past }
 
--- a run that was cut short
-cut_for : {K : Type 0} (taken : K → Option (List ℕ)) (faults : K → ℕ) (IsFile : List ℕ → Type 0) (name : List ℕ) (options : Options) (outcome : Outcome) (before after : K) → code_of outcome ≡ 4
-    → PrintsFor taken faults IsFile (answer_of name options) outcome before after → (bytes : List ℕ) × (IsFile bytes × IsCutShort options bytes (taken before) (taken after))
-cut_for {K} taken faults IsFile name options outcome before after e p =
-    let (bytes, (is, cut)) = unwritten_by outcome ((bytes : List ℕ) × (IsFile bytes × IsCut (answer_of name options bytes) (taken before) (taken after))) e p.cut_short in
-    (bytes, (is, is_cut_short name options bytes (taken before) (taken after) cut))
+-- what is left of the files by a call that reads one and then no more
+pub reads_one : {F : Type 0} (contents : F → Option Contents) (begun : F → Option Begun) (faults misses : F → ℕ) (name : List ℕ) (outcome : Outcome) (before after : F)
+    → contents after ≡ contents before → faults before ≤ faults after → CountsMiss (contents before) name (misses before) (misses after) → IsPastReading outcome
+    → Reads contents begun faults misses (name ∷ []) outcome before after
+reads_one {F} contents begun faults misses name outcome before after kept falls missed past =
+    reads_after contents begun faults misses name [] outcome before after after kept falls missed (no_reads contents begun faults misses outcome after past)
 
-pub cut_run : {K : Type 0} (command : Option Meaning) (told : Option Contents) (taken : K → Option (List ℕ)) (faults : K → ℕ) (outcome : Outcome) (before after : K) → code_of outcome ≡ 4
-    → IfRun command (λ name options. PrintsFor taken faults (IsContent told name) (answer_of name options) outcome before after)
-    → IfRun command (λ name options. (bytes : List ℕ) × (IsContent told name bytes × IsCutShort options bytes (taken before) (taken after)))
-cut_run {K} command told taken faults outcome before after e =
-    if_run-weaker command (λ name options. PrintsFor taken faults (IsContent told name) (answer_of name options) outcome before after)
-    (λ name options. (bytes : List ℕ) × (IsContent told name bytes × IsCutShort options bytes (taken before) (taken after)))
-    (λ name options. cut_for taken faults (IsContent told name) name options outcome before after e)
+-- ---- the clauses of the top call
+
+other_codes : (command : Option Meaning) → (command ≡ None → ⊥) → IsOneOf (codes_of command) 3 × (IsOneOf (codes_of command) 4 × IsOneOf (codes_of command) 7)
+other_codes None some = absurd (some refl)
+other_codes (Some (Running name plan options)) some = (refl, (refl, refl))
+other_codes (Some (Injecting name plan options)) some = (refl, (refl, refl))
+
+-- the end tells whether the words mean something
+means : {F : Type 0} (command : Option Meaning) (outcome : Outcome) (before after : F) → Fits command outcome before after → (outcome ≡ BadWords → ⊥) → command ≡ None → ⊥
+means {F} command outcome before after fits other none = other (fits.no_words none)
+
+settled_code : {K : Type 0} (taken : K → Option (List ℕ)) (told : Option Contents) (command : Option Meaning) (outcome : Outcome) (before after : K)
+    → (answer : Answer) × (IsAnswer told command answer × Settles answer outcome (taken before) (taken after)) → IsOneOf (codes_of command) (code_of outcome)
+settled_code {K} taken told command outcome before after (answer, (is, settles)) = subst (IsOneOf (codes_of command)) (sym settles.code) (answer_codes told command answer is)
+
+-- the statuses of a command
+pub command_codes : {F K : Type 0} (taken : K → Option (List ℕ)) (faults : K → ℕ) (told : Option Contents) (command : Option Meaning) (outcome : Outcome) (files_before files_after : F) (before after : K)
+    → Fits command outcome files_before files_after → Prints taken faults (IsAnswer told command) outcome before after → IsOneOf (codes_of command) (code_of outcome)
+command_codes {F} {K} taken faults told command (Ran halted seal) fb fa before after fits prints = settled_code taken told command (Ran halted seal) before after prints.answered
+command_codes {F} {K} taken faults told command (Injected alert) fb fa before after fits prints = settled_code taken told command (Injected alert) before after prints.answered
+command_codes {F} {K} taken faults told command (TooLong name) fb fa before after fits prints = settled_code taken told command (TooLong name) before after prints.answered
+command_codes {F} {K} taken faults told command (Refused name fault) fb fa before after fits prints = settled_code taken told command (Refused name fault) before after prints.answered
+command_codes {F} {K} taken faults told command (PlanTooLong name) fb fa before after fits prints = settled_code taken told command (PlanTooLong name) before after prints.answered
+command_codes {F} {K} taken faults told command (PlanRefused name fault) fb fa before after fits prints = settled_code taken told command (PlanRefused name fault) before after prints.answered
+command_codes {F} {K} taken faults told command BadWords fb fa before after fits prints = subst (λ (c : Option Meaning). IsOneOf (codes_of c) 2) (sym fits.bad_words.0) refl
+command_codes {F} {K} taken faults told command (CannotRead name) fb fa before after fits prints = (other_codes command (means command (CannotRead name) fb fa fits (λ e. cc))).0
+command_codes {F} {K} taken faults told command CannotWrite fb fa before after fits prints = (other_codes command (means command CannotWrite fb fa fits (λ e. cc))).1.0
+command_codes {F} {K} taken faults told command OutOfMemory fb fa before after fits prints = (other_codes command (means command OutOfMemory fb fa fits (λ e. cc))).1.1
+
+given : {K : Type 0} (taken : K → Option (List ℕ)) (contents : Contents) (command : Option Meaning) (outcome : Outcome) (code seal : ℕ) (before after : K) (wanted : Answer)
+    → code ≡ code_of outcome → seal ≡ seal_in outcome → IsAnswer (Some contents) command wanted
+    → (answer : Answer) × (IsAnswer (Some contents) command answer × Settles answer outcome (taken before) (taken after)) → (code ≡ 7) ⊎ Gives wanted code seal (taken before) (taken after)
+given {K} taken contents command outcome code seal before after wanted e sealed want (answer, (is, settles)) =
+    let same : answer ≡ wanted = one_answer contents command answer wanted is want in
+    inr (subst (λ (a : Answer). Gives a code seal (taken before) (taken after)) same (record { status = e ∙ settles.code; sealed = sealed ∙ settles.seal; text = settles.text }))
+
+told_complete : {F K : Type 0} (taken : K → Option (List ℕ)) (faults : K → ℕ) (contents : Contents) (command : Option Meaning) (outcome : Outcome) (code seal : ℕ) (files_before files_after : F) (before after : K) (Read : Type 0)
+    → code ≡ code_of outcome → seal ≡ seal_in outcome → Fits command outcome files_before files_after → IfUnread outcome (λ _. Read) → Prints taken faults (IsAnswer (Some contents) command) outcome before after
+    → (Read → ⊥) → (Rose (faults before) (faults after) → ⊥) → (answer : Answer) → IsAnswer (Some contents) command answer → (code ≡ 7) ⊎ Gives answer code seal (taken before) (taken after)
+told_complete {F} {K} taken faults contents command (Ran halted seal) code sl fb fa before after Read e sealed fits unread prints r w answer is = given taken contents command (Ran halted seal) code sl before after answer e sealed is prints.answered
+told_complete {F} {K} taken faults contents command (Injected alert) code sl fb fa before after Read e sealed fits unread prints r w answer is = given taken contents command (Injected alert) code sl before after answer e sealed is prints.answered
+told_complete {F} {K} taken faults contents command (TooLong name) code sl fb fa before after Read e sealed fits unread prints r w answer is = given taken contents command (TooLong name) code sl before after answer e sealed is prints.answered
+told_complete {F} {K} taken faults contents command (Refused name fault) code sl fb fa before after Read e sealed fits unread prints r w answer is = given taken contents command (Refused name fault) code sl before after answer e sealed is prints.answered
+told_complete {F} {K} taken faults contents command (PlanTooLong name) code sl fb fa before after Read e sealed fits unread prints r w answer is = given taken contents command (PlanTooLong name) code sl before after answer e sealed is prints.answered
+told_complete {F} {K} taken faults contents command (PlanRefused name fault) code sl fb fa before after Read e sealed fits unread prints r w answer is = given taken contents command (PlanRefused name fault) code sl before after answer e sealed is prints.answered
+told_complete {F} {K} taken faults contents command BadWords code sl fb fa before after Read e sealed fits unread prints r w answer is = absurd (subst (λ (c : Option Meaning). IsAnswer (Some contents) c answer) fits.bad_words.0 is)
+told_complete {F} {K} taken faults contents command (CannotRead name) code sl fb fa before after Read e sealed fits unread prints r w answer is = absurd (r unread)
+told_complete {F} {K} taken faults contents command CannotWrite code sl fb fa before after Read e sealed fits unread prints r w answer is = absurd (w prints.write_fault)
+told_complete {F} {K} taken faults contents command OutOfMemory code sl fb fa before after Read e sealed fits unread prints r w answer is = inl e
+
+-- where nothing outside fails, the answer comes, or want of memory
+pub complete : {F K : Type 0} (taken : K → Option (List ℕ)) (faults : K → ℕ) (told : Option Contents) (command : Option Meaning) (outcome : Outcome) (code seal : ℕ) (files_before files_after : F) (before after : K) (Read : Type 0)
+    → code ≡ code_of outcome → seal ≡ seal_in outcome → Fits command outcome files_before files_after → IfUnread outcome (λ _. Read) → Prints taken faults (IsAnswer told command) outcome before after
+    → (Read → ⊥) → (Rose (faults before) (faults after) → ⊥) → IsSome told → (answer : Answer) → IsAnswer told command answer → (code ≡ 7) ⊎ Gives answer code seal (taken before) (taken after)
+complete {F} {K} taken faults None command outcome code sl fb fa before after Read e sealed fits unread prints r w some answer is = absurd (let no : false ≡ true = some in cc)
+complete {F} {K} taken faults (Some contents) command outcome code sl fb fa before after Read e sealed fits unread prints r w some answer is =
+    told_complete taken faults contents command outcome code sl fb fa before after Read e sealed fits unread prints r w answer is
+
+impossible : false ≡ true → ⊥
+impossible e = cc
+
+-- a status that is none of an injection's run
+not_run : (code other : ℕ) → code ≡ other → (IsOneOf (0 ∷ 8 ∷ []) other → ⊥) → IsOneOf (0 ∷ 8 ∷ []) code → ⊥
+not_run code other e none one = none (subst (IsOneOf (0 ∷ 8 ∷ [])) e one)
+
+notices_by : (outcome : Outcome) (code : ℕ) (before after : Option (List ℕ)) → code ≡ code_of outcome → EndsNoticed outcome before after → IsOneOf (0 ∷ 8 ∷ []) code → Notices code before after
+notices_by (Ran halted seal) code before after e h one = absurd h
+notices_by (Injected alert) code before after e h one = subst (λ (n : ℕ). Notices n before after) (sym e) h
+notices_by BadWords code before after e h one = absurd (not_run code 2 e impossible one)
+notices_by (CannotRead name) code before after e h one = absurd (not_run code 3 e impossible one)
+notices_by CannotWrite code before after e h one = absurd (not_run code 4 e impossible one)
+notices_by (TooLong name) code before after e h one = absurd (not_run code 5 e impossible one)
+notices_by (Refused name fault) code before after e h one = absurd (not_run code 5 e impossible one)
+notices_by (PlanTooLong name) code before after e h one = absurd (not_run code 6 e impossible one)
+notices_by (PlanRefused name fault) code before after e h one = absurd (not_run code 6 e impossible one)
+notices_by OutOfMemory code before after e h one = absurd (not_run code 7 e impossible one)
+
+-- what an injection prints is noticed
+pub notices : (command : Option Meaning) (outcome : Outcome) (code : ℕ) (before after : Option (List ℕ)) → code ≡ code_of outcome → IfInject command (EndsNoticed outcome before after)
+    → IfInject command (IsOneOf (0 ∷ 8 ∷ []) code → Notices code before after)
+notices None outcome code before after e h = tt
+notices (Some (Running name plan options)) outcome code before after e h = tt
+notices (Some (Injecting name plan options)) outcome code before after e h = notices_by outcome code before after e h

@@ -1,94 +1,220 @@
--- What the program answers to the bytes of its file, and the words of its contract (the statuses are our own rule).
-use Rattle.std.specs.Prelude.{⊤, ◌≡◌, ℕ, ◌≤◌, Bool, true, false, ◌==◌, nat_lt, List, [], length, Option, Some, None, IsSome, IsTrue, ◌⊎◌}
+-- What the program answers to the bytes of its files, and the words of its contract (the statuses are our own rule).
+use Rattle.std.specs.Prelude.{⊤, ◌≡◌, ℕ, ◌/◌, Bool, true, false, ◌==◌, nat_lt, List, [], ◌∷◌, length, Option, Some, None, is_some, Result, Ok, Err, if◌then◌else◌, IsSome, IsTrue, ◌⊎◌}
 use Rattle.std.specs.List.{list_any}
 use Rattle.ibx_base.specs.Counts.{Rose}
-use Rattle.ibx_base.specs.Files.{Contents}
+use Rattle.ibx_base.specs.Files.{Contents, IsContent}
 use Rattle.ibx_base.specs.Sinks.{with_more, TookPrefix}
 use Rattle.ibx_elf.specs.declared.fault.ElfFault.{ElfFault}
-use Rattle.ibx_elf.specs.Faults.{first_fault, IsWellFormed}
-use Rattle.ibx_elf.specs.Image.{image_of}
-use Rattle.ibx_command.specs.declared.command.Options.{Options}
-use Rattle.ibx_command.specs.Command.{Meaning, Running}
-use Rattle.ibx_story.specs.declared.end.StoryEnd.{StoryEnd}
-use Rattle.ibx_story.specs.declared.end.StoryEnd.TheVariants.{Halted, Spent, NotBuilt}
-use Rattle.ibx_story.specs.Stories.{Story, story_of}
+use Rattle.ibx_elf.specs.declared.ram.Ram.{Ram}
+use Rattle.ibx_elf.specs.Faults.{first_fault}
+use Rattle.ibx_elf.specs.Image.{Placed, image_of}
+use Rattle.ibx_plan.specs.declared.bounds.Bounds.{Bounds}
+use Rattle.ibx_plan.specs.declared.bounds.PlanFault.{PlanFault}
+use Rattle.ibx_plan.specs.Plan.{PlanValue, empty_plan, plan_of}
+use Rattle.ibx_command.specs.declared.options.Options.{Options}
+use Rattle.ibx_command.specs.Command.{Meaning, Running, Injecting}
+use Rattle.ibx_compare.specs.declared.flipped.Verdict.{Verdict}
+use Rattle.ibx_compare.specs.Verdicts.{IsNoticed}
+use Rattle.ibx_time.specs.Settings.{Setup}
+use Rattle.ibx_top.specs.declared.task.Task.{Task}
+use Rattle.ibx_top.specs.declared.task.Task.TheVariants.{Run, Inject}
+use Rattle.ibx_top.specs.TimedStories.{TimedStory, timed_story}
 use Rattle.ibx_top.specs.Texts.{story_text}
-use Rattle.ibx_top.specs.ErrLines.{too_long_line, fault_line, not_built_line}
+use Rattle.ibx_compare.specs.Drives.{drive_from}
+use Rattle.ibx_top.specs.Seals.{seal_of}
+use Rattle.ibx_top.specs.Verdicts.{verdict_text, verdict_of, system_of}
+use Rattle.ibx_top.specs.ErrLines.{too_long_line, fault_line, plan_fault_line}
 
--- the status, and the texts for the output and for the error output
+-- the status, the texts for the output and for the error output, and the seal
 pub record Answer : Type 0 where
   pub code : ℕ
   pub text : List ℕ
   pub line : List ℕ
+  pub seal : ℕ
 
--- the status of a run, by its ending
-abbrev pub ending_code : StoryEnd → ℕ
-ending_code Halted = 0
-ending_code Spent = 1
-ending_code NotBuilt = 10
+-- ---- what is read
 
-abbrev pub ending_line : StoryEnd → List ℕ
-ending_line NotBuilt = not_built_line
-ending_line _ = []
+-- the answer to a file that isn't run, and to a plan that isn't followed
+abbrev pub refusal : ℕ → List ℕ → Answer
+refusal code line = record { code = code; text = []; line = line; seal = 0 }
 
 -- the most bytes that a file may have, 32 MiB
 abbrev pub file_limit : ℕ
 file_limit = 33554432
 
--- the answer to a file that isn't run
-abbrev pub refusal : List ℕ → Answer
-refusal line = record { code = 5; text = []; line = line }
+-- the most bytes that a plan may have, 4 MiB
+abbrev pub plan_limit : ℕ
+plan_limit = 4194304
 
--- the answer to a file that is run: its story's text, and what the ending says
-abbrev pub story_answer : ℕ → Story → Answer
-story_answer budget story =
-    record { code = ending_code story.ending; text = story_text budget story; line = ending_line story.ending }
+-- the answer to a file of this name: whether its bytes are too long, then their first fault, and else what its image answers
+unfoldable pub file_answer_by : List ℕ → Bool → Option ElfFault → Answer → Answer
+file_answer_by name true fault ran = refusal 5 (too_long_line name)
+file_answer_by name false (Some fault) ran = refusal 5 (fault_line name fault)
+file_answer_by name false None ran = ran
 
--- the answer to a file by the story of its bytes, whether they are too long, and their first fault
-unfoldable pub answer_by : List ℕ → ℕ → Story → Bool → Option ElfFault → Answer
-answer_by name budget story true fault = refusal (too_long_line name)
-answer_by name budget story false (Some fault) = refusal (fault_line name fault)
-answer_by name budget story false None = story_answer budget story
+abbrev pub file_answer : List ℕ → Ram → (Placed → Answer) → List ℕ → Answer
+file_answer name ram ran bytes =
+    file_answer_by name (nat_lt file_limit (length bytes)) (first_fault bytes ram) (ran (image_of bytes ram))
 
--- the answer to a file of this name with these bytes
-unfoldable pub answer_of : List ℕ → Options → List ℕ → Answer
-answer_of name options bytes =
-    answer_by name options.cycles (story_of (image_of bytes options.ram) options.cycles) (nat_lt file_limit (length bytes)) (first_fault bytes options.ram)
+-- the answer to a plan of this name: whether its text is too long, then its first fault, and else what the plan answers
+unfoldable pub plan_answer_by : List ℕ → Bool → Result PlanValue PlanFault → (PlanValue → Answer) → Answer
+plan_answer_by name true read followed = refusal 6 (too_long_line name)
+plan_answer_by name false (Err fault) followed = refusal 6 (plan_fault_line name fault)
+plan_answer_by name false (Ok plan) followed = followed plan
+
+abbrev pub plan_answer : List ℕ → Bounds → (PlanValue → Answer) → List ℕ → Answer
+plan_answer name bounds followed text = plan_answer_by name (nat_lt plan_limit (length text)) (plan_of bounds text) followed
+
+-- ---- `run`
+
+-- the run of an image, with the multiplier of the options and a plan
+abbrev pub setup_of : Options → PlanValue → Placed → Setup
+setup_of options plan image = record { image = image; mul = options.mul; plan = plan }
+
+-- the status of a run, by whether a halting store ended it
+abbrev pub halt_code : Bool → ℕ
+halt_code halted = if halted then 0 else 1
+
+-- the answer to a file that is run: its story's text, how it ended, and the seal
+abbrev pub story_answer : ℕ → TimedStory → ℕ → Answer
+story_answer budget story seal =
+    record { code = halt_code story.halted; text = story_text budget story; line = []; seal = seal }
+
+-- the seal of a run: the sum over the fields of main in the state that the run's steps leave
+abbrev pub run_seal : Options → PlanValue → Placed → ℕ
+run_seal options plan image = seal_of (drive_from options.cycles (system_of image options plan)).left.main
+
+-- the answer to an image that is run by a plan: the events of the time equations, and the seal of the cores' steps
+abbrev pub ran_by : Options → PlanValue → Placed → Answer
+ran_by options plan image =
+    story_answer options.cycles (timed_story (setup_of options plan image) options.cycles) (run_seal options plan image)
+
+-- ---- `inject`
+
+-- the status of an injection, by whether there is an alert
+abbrev pub alert_code : Bool → ℕ
+alert_code alert = if alert then 8 else 0
+
+-- the answer to a file that is run with and without a flip
+abbrev pub verdict_answer : Verdict → Answer
+verdict_answer verdict =
+    record { code = alert_code (is_some verdict.first_alert); text = verdict_text verdict; line = []; seal = 0 }
+
+-- the answer to an image that is run with and without the flip of a plan
+abbrev pub injected_by : Options → PlanValue → Placed → Answer
+injected_by options planned image = verdict_answer (verdict_of image options planned)
+
+-- ---- both
+
+-- the answer of a command to an image and a plan
+unfoldable pub done : Task → Options → PlanValue → Placed → Answer
+done Run = ran_by
+done Inject = injected_by
+
+-- the flips that a command's plan has: one for an injection, in a cycle below the budget
+abbrev pub flips_of : Task → ℕ
+flips_of Run = 0
+flips_of Inject = 1
+
+abbrev pub bounds_of : Task → Options → Bounds
+bounds_of task options = record { ram_words = options.ram.size / 4; flips = flips_of task; cycles = options.cycles }
+
+-- the answer of a command to the text of its plan and the bytes of its file: that to the plan comes first
+unfoldable pub planned_answer : Task → List ℕ → List ℕ → Options → List ℕ → List ℕ → Answer
+planned_answer task name plan options text bytes =
+    plan_answer plan (bounds_of task options) (λ planned. file_answer name options.ram (done task options planned) bytes) text
+
+-- the answer of `run` without a plan to the bytes of its file
+abbrev pub plain_answer : List ℕ → Options → List ℕ → Answer
+plain_answer name options = file_answer name options.ram (done Run options empty_plan)
+
+-- ---- the contract's words
+
+-- an answer is that to the bytes of this file
+abbrev pub IsAnswerTo : Option Contents → List ℕ → (List ℕ → Answer) → Answer → Type 0
+IsAnswerTo told name answer_to answer = (bytes : List ℕ) × (IsContent told name bytes × (answer ≡ answer_to bytes))
+
+-- an answer is that of a command to this text of its plan and the bytes of its file; where the plan is refused, which is
+-- status 6, the file isn't read, and any bytes do
+abbrev pub IsPlannedBy : Option Contents → Task → List ℕ → List ℕ → Options → List ℕ → Answer → Type 0
+IsPlannedBy told task name plan options text answer =
+    (bytes : List ℕ) × (((answer.code ≡ 6) ⊎ IsContent told name bytes) × (answer ≡ planned_answer task name plan options text bytes))
+
+-- the same, and the text is that of its plan
+abbrev pub IsPlanned : Option Contents → Task → List ℕ → List ℕ → Options → Answer → Type 0
+IsPlanned told task name plan options answer =
+    (text : List ℕ) × (IsContent told plan text × IsPlannedBy told task name plan options text answer)
+
+-- an answer of `run`, by the name of its plan, if there is one
+abbrev pub IsRun : Option Contents → List ℕ → Option (List ℕ) → Options → Answer → Type 0
+IsRun told name None options answer = IsAnswerTo told name (plain_answer name options) answer
+IsRun told name (Some plan) options answer = IsPlanned told Run name plan options answer
+
+-- an answer is that to what the words mean and to the bytes of the files that they name
+abbrev pub IsAnswer : Option Contents → Option Meaning → Answer → Type 0
+IsAnswer told None answer = ⊥
+IsAnswer told (Some (Running name plan options)) answer = IsRun told name plan options answer
+IsAnswer told (Some (Injecting name plan options)) answer = IsPlanned told Inject name plan options answer
+
+-- the plan that is named, if there is one, and the file
+abbrev pub with_plan : Option (List ℕ) → List (List ℕ) → List (List ℕ)
+with_plan None names = names
+with_plan (Some plan) names = plan ∷ names
+
+-- the files that the words name, in the order in which they are read
+abbrev pub names_of : Option Meaning → List (List ℕ)
+names_of None = []
+names_of (Some (Running name plan options)) = with_plan plan (name ∷ [])
+names_of (Some (Injecting name plan options)) = plan ∷ name ∷ []
+
+-- the statuses that a command has
+abbrev pub codes_of : Option Meaning → List ℕ
+codes_of None = 2 ∷ []
+codes_of (Some (Running name plan options)) = 0 ∷ 1 ∷ 3 ∷ 4 ∷ 5 ∷ 6 ∷ 7 ∷ []
+codes_of (Some (Injecting name plan options)) = 0 ∷ 3 ∷ 4 ∷ 5 ∷ 6 ∷ 7 ∷ 8 ∷ []
+
+-- a fact where the words are those of `inject`
+abbrev pub IfInject : Option Meaning → Type 0 → Type 0
+IfInject (Some (Injecting name plan options)) P = P
+IfInject _ P = ⊤
 
 -- one of these statuses
 abbrev pub IsOneOf : List ℕ → ℕ → Type 0
 IsOneOf codes code = IsTrue (list_any (λ n. n == code) codes)
-
--- a fact about the file and the options that the words name, where they are those of `run FILE`
-abbrev pub IfRun : Option Meaning → (List ℕ → Options → Type 0) → Type 0
-IfRun (Some (Running name options)) P = P name options
-IfRun _ P = ⊤
 
 -- where the names are told, this one is there
 abbrev pub IsThere : Option Contents → List ℕ → Type 0
 IsThere None name = ⊤
 IsThere (Some contents) name = IsSome (contents name)
 
--- where the names are told, the files that the words name are there
-abbrev pub AreThere : Option Contents → Option Meaning → Type 0
-AreThere told None = ⊤
-AreThere told (Some (Running name options)) = IsThere told name
+-- where the names are told, each of these is there
+abbrev pub AreThere : Option Contents → List (List ℕ) → Type 0
+AreThere told [] = ⊤
+AreThere told (name ∷ more) = IsThere told name × AreThere told more
 
--- the names are told, and these are the bytes of this one
-abbrev pub IsTold : Option Contents → List ℕ → List ℕ → Type 0
-IsTold None name bytes = ⊥
-IsTold (Some contents) name bytes = contents name ≡ Some bytes
+-- one of these names
+abbrev pub IsAmong : List (List ℕ) → List ℕ → Type 0
+IsAmong [] said = ⊥
+IsAmong (name ∷ more) said = (said ≡ name) ⊎ IsAmong more said
 
--- the status is the answer's, and the output took its whole text
-pub record Gives (answer : Answer) (code : ℕ) (before after : Option (List ℕ)) : Type 0 where
+-- the status and the seal are the answer's, and the output took its whole text
+pub record Gives (answer : Answer) (code seal : ℕ) (before after : Option (List ℕ)) : Type 0 where
   pub status : code ≡ answer.code
+  pub sealed : seal ≡ answer.seal
   pub text : after ≡ with_more before answer.text
 
--- the output took a prefix of the text of a run of these bytes
-pub record IsCutShort (options : Options) (bytes : List ℕ) (before after : Option (List ℕ)) : Type 0 where
-  pub fits : length bytes ≤ file_limit
-  pub well_formed : IsWellFormed bytes options.ram
-  pub text : TookPrefix before (story_text options.cycles (story_of (image_of bytes options.ram) options.cycles)) after
+-- the output took a prefix of the text of an answer that is no refusal
+pub record IsCutShort (answer : Answer) (before after : Option (List ℕ)) : Type 0 where
+  pub runs : IsOneOf (0 ∷ 1 ∷ 8 ∷ []) answer.code
+  pub text : TookPrefix before answer.text after
+
+-- The output took the text of a verdict in which the bus doesn't differ without an alert, which comes at most two cycles after
+-- the first difference, and the status says whether there is one.
+pub record Notices (code : ℕ) (before after : Option (List ℕ)) : Type 0 where
+  pub verdict : Verdict
+  pub noticed : IsNoticed verdict
+  pub status : code ≡ alert_code (is_some verdict.first_alert)
+  pub text : after ≡ with_more before (verdict_text verdict)
 
 -- the whole line was taken, or a prefix of it where a fault was counted
 abbrev pub Says : Option (List ℕ) → Option (List ℕ) → ℕ → ℕ → List ℕ → Type 0

@@ -1,6 +1,10 @@
 -- The lines on the error output, each as its bytes with the line feed (our own rule).
 use Rattle.std.specs.Prelude.{ℕ, List, [], ◌∷◌, ◌++◌, codes, flat_map}
 use Rattle.std.specs.Fmt.{decimal}
+use Rattle.ibx_plan.specs.declared.bounds.LineKind.{LineKind}
+use Rattle.ibx_plan.specs.declared.bounds.LineKind.TheVariants as kind
+use Rattle.ibx_plan.specs.declared.bounds.PlanFault.{PlanFault}
+use Rattle.ibx_plan.specs.declared.bounds.PlanFault.TheVariants as plan
 use Rattle.ibx_elf.specs.declared.fault.ElfFault.{ElfFault}
 use Rattle.ibx_elf.specs.declared.fault.ElfFault.TheVariants.{Short, Magic, Class, Order, Version, Kind, Machine, Headers, TooMany, Segment, OutsideRam, Overlap, Entry}
 
@@ -18,9 +22,6 @@ too_long_line name = codes "ibex: " ++ name ++ codes ": too long\n"
 
 abbrev pub out_of_memory_line : List ℕ
 out_of_memory_line = codes "ibex: out of memory\n"
-
-abbrev pub not_built_line : List ℕ
-not_built_line = codes "ibex: not built\n"
 
 -- the number of a fault, in the order in which they are looked for
 unfoldable pub fault_number : ElfFault → ℕ
@@ -55,3 +56,21 @@ fault_text fault = codes ": elf fault" ++ spaced (fault_number fault) ++ flat_ma
 
 abbrev pub fault_line : List ℕ → ElfFault → List ℕ
 fault_line name fault = codes "ibex: " ++ name ++ fault_text fault
+
+-- what a line of a plan is refused for, after a space
+unfoldable pub kind_text : LineKind → List ℕ
+kind_text kind.Word = codes " word\n"
+kind_text kind.Number = codes " number\n"
+kind_text kind.Range = codes " range\n"
+kind_text kind.Order = codes " order\n"
+kind_text kind.Flip = codes " flip\n"
+
+-- what the line of a plan's fault has after the plan's name; want of memory is no fault of a plan, and isn't printed
+unfoldable pub plan_fault_text : PlanFault → List ℕ
+plan_fault_text (plan.Line line kind) = codes ": plan line" ++ spaced line ++ kind_text kind
+plan_fault_text (plan.TooMany line) = codes ": plan line" ++ spaced line ++ codes " too many\n"
+plan_fault_text plan.NoFlip = codes ": no flip\n"
+plan_fault_text plan.Memory = codes ": no memory\n"
+
+abbrev pub plan_fault_line : List ℕ → PlanFault → List ℕ
+plan_fault_line name fault = codes "ibex: " ++ name ++ plan_fault_text fault

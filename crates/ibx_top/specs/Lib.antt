@@ -1,4 +1,9 @@
+pub mod TimedStories
 pub mod Texts
+pub mod Verdicts
+pub mod Drives
+pub mod Seals
 pub mod ErrLines
 pub mod Answers
 pub mod Outcomes
+pub mod TwinTimes

@@ -3,18 +3,20 @@ ghost use Rattle.std.specs.Prelude.{◌≡◌, [], ◌∷◌, ◌++◌, OnOk, On
 ghost use Rattle.ibx_base.specs.Counts.{HasCause};
 ghost use Rattle.ibx_base.specs.Sinks.{with_more, TookPrefix};
 ghost use Rattle.ibx_top.specs.Answers.{IsOneOf, Says};
-ghost use Rattle.ibx_top.specs.Outcomes.{code_of as code_of_lem, err_line_of};
+ghost use Rattle.ibx_top.specs.Outcomes.{code_of as code_of_lem, err_line_of, seal_in};
 
-use crate::faults::fault_text;
+use crate::faults::{fault_text, plan_fault_text};
 use ibx_base::{Failed, Sink, Status, write_all};
 use ibx_elf::ElfFault;
-use ibx_story::StoryEnd;
+use ibx_plan::PlanFault;
 
 /// How a call ends. Names are those of files.
 #[derive(Clone, Copy)]
 pub(crate) enum Outcome<'w> {
-    /// The machine ran.
-    Ran(StoryEnd),
+    /// The cores ran: whether a halting store ended the run, and the sum of main's fields.
+    Ran { halted: bool, seal: u64 },
+    /// The cores ran with and without a flip, and whether there was an alert.
+    Injected(bool),
     /// The words don't fit the grammar.
     BadWords,
     /// This file can't be read.
@@ -25,6 +27,10 @@ pub(crate) enum Outcome<'w> {
     TooLong(&'w str),
     /// This file isn't a program for the machine.
     Refused(&'w str, ElfFault),
+    /// This plan has too many bytes.
+    PlanTooLong(&'w str),
+    /// This plan can't be followed.
+    PlanRefused(&'w str, PlanFault),
     /// There was no memory.
     OutOfMemory,
 }
@@ -48,17 +54,22 @@ fn write_line<E: Sink>(err: &mut E, outcome: Outcome<'_>) -> Result<(), Failed>
     ensures whole { OnOk result (E.taken err.new ≡ with_more (E.taken err.old) (err_line_of outcome.entry)) }
     ensures prefix { OnErr result (TookPrefix (E.taken err.old) (err_line_of outcome.entry) (E.taken err.new)) }
     ensures cause { HasCause (E.faults err.old) (E.faults err.new) result }
-    ensures quiet { IsOneOf (0 ∷ 1 ∷ []) (code_of_lem outcome.entry) → err.new ≡ err.old }
+    ensures quiet { IsOneOf (0 ∷ 1 ∷ 8 ∷ []) (code_of_lem outcome.entry) → err.new ≡ err.old }
 {
     match outcome {
-        Outcome::Ran(StoryEnd::Halted | StoryEnd::Spent) => Ok(()),
-        Outcome::Ran(StoryEnd::NotBuilt) => write_all(err, b"ibex: not built\n"),
+        Outcome::Ran { .. } | Outcome::Injected(_) => Ok(()),
         Outcome::BadWords => write_all(err, b"ibex: bad words\n"),
         Outcome::CannotRead(name) => write_parts(err, "ibex: cannot read ", name, "\n"),
         Outcome::CannotWrite => write_all(err, b"ibex: cannot write\n"),
-        Outcome::TooLong(name) => write_parts(err, "ibex: ", name, ": too long\n"),
+        Outcome::TooLong(name) | Outcome::PlanTooLong(name) => {
+            write_parts(err, "ibex: ", name, ": too long\n")
+        }
         Outcome::Refused(name, fault) => {
             let text = fault_text(fault);
+            write_parts(err, "ibex: ", name, text.as_str())
+        }
+        Outcome::PlanRefused(name, fault) => {
+            let text = plan_fault_text(fault);
             write_parts(err, "ibex: ", name, text.as_str())
         }
         Outcome::OutOfMemory => write_all(err, b"ibex: out of memory\n"),
@@ -70,28 +81,39 @@ fn code_of(outcome: Outcome<'_>) -> u8
     ensures { result ≡ code_of_lem outcome.entry }
 {
     match outcome {
-        Outcome::Ran(StoryEnd::Halted) => 0,
-        Outcome::Ran(StoryEnd::Spent) => 1,
-        Outcome::Ran(StoryEnd::NotBuilt) => 10,
+        Outcome::Ran { halted, .. } => { if halted { 0 } else { 1 } }
+        Outcome::Injected(false) => 0,
+        Outcome::Injected(true) => 8,
         Outcome::BadWords => 2,
         Outcome::CannotRead(_) => 3,
         Outcome::CannotWrite => 4,
         Outcome::TooLong(_) | Outcome::Refused(_, _) => 5,
+        Outcome::PlanTooLong(_) | Outcome::PlanRefused(_, _) => 6,
         Outcome::OutOfMemory => 7,
+    }
+}
+
+/// The seal of an outcome: that of a run, and else 0.
+fn seal_of(outcome: Outcome<'_>) -> u64
+    ensures { result ≡ seal_in outcome.entry }
+{
+    match outcome {
+        Outcome::Ran { seal, .. } => seal,
+        _ => 0,
     }
 }
 
 /// Reports an outcome. A fault of the error output changes nothing else.
 pub(crate) fn report<E: Sink>(err: &mut E, outcome: Outcome<'_>) -> Status
     ensures code { result.code ≡ code_of_lem outcome.entry }
-    ensures seal { result.seal ≡ 0 }
+    ensures seal { result.seal ≡ seal_in outcome.entry }
     ensures line { Says (E.taken err.old) (E.taken err.new) (E.faults err.old) (E.faults err.new)
         (err_line_of outcome.entry) }
-    ensures quiet { IsOneOf (0 ∷ 1 ∷ []) (code_of_lem outcome.entry) → err.new ≡ err.old }
+    ensures quiet { IsOneOf (0 ∷ 1 ∷ 8 ∷ []) (code_of_lem outcome.entry) → err.new ≡ err.old }
 {
     let _ = write_line(err, outcome);
     Status {
         code: code_of(outcome),
-        seal: 0,
+        seal: seal_of(outcome),
     }
 }
