@@ -3,7 +3,8 @@ use Rattle.std.proofs.Common.{◌≡◌, false, List, [], ◌∷◌, refl}
 use Rattle.ibx_isa.specs.declared.bus.Req.{Req}
 use Rattle.ibx_plan.specs.declared.site.Wait.{Wait}
 use Rattle.ibx_bus.specs.Port.{port_moves}
-use Rattle.ibx_bus.specs.PortTimes.{Call, IsPolite, answered_in, granted_in, issues, trace, trace_of, grant_times, answer_times, grant_time, answer_time, waits_of}
+use Rattle.ibx_bus.specs.PortTimes.{Call, IsPolite, answered_in, granted_in, issues, trace, trace_of, grant_times}
+use Rattle.ibx_bus.specs.PortTimes.{answer_times, grant_time, answer_time, waits_of}
 use Rattle.ibx_isa.specs.Wires.{fetch_wires, no_request}
 
 abbrev waits : List Wait
@@ -57,6 +58,7 @@ answer_cycles : answered_in 0 (trace_of waits calls) ≡ 4 ∷ 5 ∷ 9 ∷ []
 unfolding answered_in trace port_moves
 answer_cycles = refl
 
-times : (grant_times waits 0 (0 ∷ 4 ∷ 5 ∷ []) ≡ 2 ∷ 4 ∷ 7 ∷ []) × (answer_times waits 0 (0 ∷ 4 ∷ 5 ∷ []) ≡ 4 ∷ 5 ∷ 9 ∷ [])
+times : (grant_times waits 0 (0 ∷ 4 ∷ 5 ∷ []) ≡ 2 ∷ 4 ∷ 7 ∷ []) × (answer_times waits 0 (0 ∷ 4 ∷ 5 ∷ []) ≡ 4 ∷ 5 ∷ 9 ∷
+    [])
 unfolding grant_times answer_times grant_time answer_time waits_of
 times = (refl, refl)

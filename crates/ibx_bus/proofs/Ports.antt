@@ -1,5 +1,6 @@
 -- The port by itself: what it is in each part of a transaction, and that a cycle keeps it so.
-use Rattle.std.proofs.Common.{◌≡◌, ℕ, suc, ◌+◌, ◌%◌, ◌<◌, ◌≤◌, ◌⊎◌, ◌≢◌, Bool, true, false, not, List, [], ◌∷◌, length, refl, sym, ap, ◌∙◌, inl, inr, arith, add-one}
+use Rattle.std.proofs.Common.{◌≡◌, ℕ, suc, ◌+◌, ◌%◌, ◌<◌, ◌≤◌, ◌⊎◌, ◌≢◌, Bool, true, false, not, List, [], ◌∷◌, length}
+use Rattle.std.proofs.Common.{refl, sym, ap, ◌∙◌, inl, inr, arith, add-one}
 use Rattle.std.proofs.Math.Nat.{mod-add-mod, mod-eq_of_lt, mod_self}
 use Rattle.std.proofs.lemmas.Nat.{mod_below}
 use Rattle.std.proofs.lemmas.Bool.{eqb-true, eqb-false, ne_eqb, and_right, lt-ltb, le-ltb, cases_lt}
@@ -32,10 +33,12 @@ unfolding place_of waits_of
 wait_place [] n = refl
 wait_place (w ∷ ws) n = refl
 
-pub wait_is : (ws waits : List Wait) (n place : ℕ) → waits ≡ ws → place ≡ place_of ws n → wait_at waits place ≡ waits_of ws n
+pub wait_is : (ws waits : List Wait) (n place : ℕ) → waits ≡ ws → place ≡ place_of ws n → wait_at waits place ≡
+    waits_of ws n
 wait_is ws waits n place same at = rw (same, at) (wait_place ws n)
 
-next_is : (ws waits : List Wait) (n place : ℕ) → waits ≡ ws → place ≡ place_of ws n → next_place waits place ≡ place_of ws (suc n)
+next_is : (ws waits : List Wait) (n place : ℕ) → waits ≡ ws → place ≡ place_of ws n → next_place waits place ≡ place_of
+    ws (suc n)
 next_is ws waits n place same at = rw (same, at) (place_next ws n)
 
 -- ---- the parts of a transaction
@@ -82,13 +85,22 @@ idle_silent ws n p i = rw i.busy
 pub waiting_silent : (ws : List Wait) (m x c : ℕ) (p : PortState) → Waiting ws m x c p → answers p ≡ false
 waiting_silent ws m x c p w = rw w.busy
 
-pub granted_free : (ws : List Wait) (m x : ℕ) (err : Bool) (word c : ℕ) (p : PortState) → Granted ws m x err word c p → p.left ≡ 0 → Free ws (suc m) p
-granted_free ws m x err word c p g e = record { list = g.list; blocked = rw (g.busy, e); waited = g.waited; place = g.place }
+pub granted_free : (ws : List Wait) (m x : ℕ) (err : Bool) (word c : ℕ) (p : PortState) → Granted ws m x err word c p →
+    p.left ≡ 0 → Free ws (suc m) p
+granted_free ws m x err word c p g e = record {
+  list = g.list;
+  blocked = rw (g.busy, e);
+  waited = g.waited;
+  place =
+      g.place;
+}
 
-pub granted_answers : (ws : List Wait) (m x : ℕ) (err : Bool) (word c : ℕ) (p : PortState) → Granted ws m x err word c p → p.left ≡ 0 → answers p ≡ true
+pub granted_answers : (ws : List Wait) (m x : ℕ) (err : Bool) (word c : ℕ) (p : PortState) → Granted ws m x err word c
+    p → p.left ≡ 0 → answers p ≡ true
 granted_answers ws m x err word c p g e = rw (g.busy, e)
 
-pub granted_silent : (ws : List Wait) (m x : ℕ) (err : Bool) (word c : ℕ) (p : PortState) → Granted ws m x err word c p → p.left ≢ 0 → answers p ≡ false
+pub granted_silent : (ws : List Wait) (m x : ℕ) (err : Bool) (word c : ℕ) (p : PortState) → Granted ws m x err word c p
+    → p.left ≢ 0 → answers p ≡ false
 granted_silent ws m x err word c p g ne = rw (g.busy, ne_eqb p.left 0 ne)
 
 pub no_grant : (p : PortState) → grants false p ≡ false
@@ -101,7 +113,8 @@ abbrev pub moved : Bool → PortState → Bool → ℕ → PortState
 moved request p err word = port_moves (is_blocked p) request (is_wait_over p) p err word
 
 -- a free port with no request
-pub free_rests : (ws : List Wait) (n : ℕ) (err : Bool) (word : ℕ) (p : PortState) → Free ws n p → Idle ws n (moved false p err word)
+pub free_rests : (ws : List Wait) (n : ℕ) (err : Bool) (word : ℕ) (p : PortState) → Free ws n p → Idle ws n
+    (moved false p err word)
 unfolding port_moves
 free_rests ws n err word p f = rw f.blocked (record { list = f.list; busy = refl; waited = refl; place = f.place })
 
@@ -116,12 +129,16 @@ pub record Waits (ws : List Wait) (m x : ℕ) (err : Bool) (word c : ℕ) (p : P
   pub then : Waiting ws m x (c + 1) (moved true p err word)
 
 -- a port that isn't blocked, with a request
-requested : (ws : List Wait) (m x : ℕ) (err : Bool) (word c : ℕ) (p : PortState) → p.waits ≡ ws → is_blocked p ≡ false → p.waited + x ≡ c → p.place ≡ place_of ws m → c ≤ grant_time ws m x → (b : Bool) → is_wait_over p ≡ b → Grants ws m x err word c p ⊎ Waits ws m x err word c p
+requested : (ws : List Wait) (m x : ℕ) (err : Bool) (word c : ℕ) (p : PortState) → p.waits ≡ ws → is_blocked p ≡ false
+    → p.waited + x ≡ c → p.place ≡ place_of ws m → c ≤ grant_time ws m x → (b : Bool) → is_wait_over p ≡ b → Grants ws
+    m x err word c p ⊎ Waits ws m x err word c p
 unfolding port_moves answer_time grant_time
 requested ws m x err word c p list blocked waited place late true over =
     let now : p.waited ≡ (wait_at p.waits p.place).grant = eqb-true p.waited (wait_at p.waits p.place).grant over in
-    let grant : (wait_at p.waits p.place).grant ≡ (waits_of ws m).grant = ap (λ (w : Wait). w.grant) (wait_is ws p.waits m p.place list place) in
-    let answer : (wait_at p.waits p.place).answer ≡ (waits_of ws m).answer = ap (λ (w : Wait). w.answer) (wait_is ws p.waits m p.place list place) in
+    let grant : (wait_at p.waits p.place).grant ≡ (waits_of ws m).grant = ap (λ (w : Wait). w.grant)
+    (wait_is ws p.waits m p.place list place) in
+    let answer : (wait_at p.waits p.place).answer ≡ (waits_of ws m).answer = ap (λ (w : Wait). w.answer)
+    (wait_is ws p.waits m p.place list place) in
     inl (record {
       grant = rw (blocked, over);
       now = omega arith;
@@ -138,7 +155,8 @@ requested ws m x err word c p list blocked waited place late true over =
     })
 requested ws m x err word c p list blocked waited place late false over =
     let no : p.waited ≢ (wait_at p.waits p.place).grant = eqb-false p.waited (wait_at p.waits p.place).grant over in
-    let grant : (wait_at p.waits p.place).grant ≡ (waits_of ws m).grant = ap (λ (w : Wait). w.grant) (wait_is ws p.waits m p.place list place) in
+    let grant : (wait_at p.waits p.place).grant ≡ (waits_of ws m).grant = ap (λ (w : Wait). w.grant)
+    (wait_is ws p.waits m p.place list place) in
     inr (record {
       grant = rw (blocked, over);
       then = rw (blocked, over) (record {
@@ -150,16 +168,31 @@ requested ws m x err word c p list blocked waited place late false over =
       });
     })
 
-pub free_starts : (ws : List Wait) (n : ℕ) (err : Bool) (word c : ℕ) (p : PortState) → Free ws n p → Grants ws n c err word c p ⊎ Waits ws n c err word c p
+pub free_starts : (ws : List Wait) (n : ℕ) (err : Bool) (word c : ℕ) (p : PortState) → Free ws n p → Grants ws n c err
+    word c p ⊎ Waits ws n c err word c p
 unfolding grant_time
-free_starts ws n err word c p f = requested ws n c err word c p f.list f.blocked (omega (arith, f.waited)) f.place (omega arith) (is_wait_over p) refl
+free_starts ws n err word c p f = requested ws n c err word c p f.list f.blocked (omega (arith, f.waited)) f.place
+    (omega arith) (is_wait_over p) refl
 
-pub waiting_goes : (ws : List Wait) (m x : ℕ) (err : Bool) (word c : ℕ) (p : PortState) → Waiting ws m x c p → Grants ws m x err word c p ⊎ Waits ws m x err word c p
-waiting_goes ws m x err word c p w = requested ws m x err word c p w.list (rw w.busy) w.waited w.place w.late (is_wait_over p) refl
+pub waiting_goes : (ws : List Wait) (m x : ℕ) (err : Bool) (word c : ℕ) (p : PortState) → Waiting ws m x c p → Grants
+    ws m x err word c p ⊎ Waits ws m x err word c p
+waiting_goes ws m x err word c p w = requested ws m x err word c p w.list (rw w.busy) w.waited w.place w.late
+    (is_wait_over p) refl
 
 -- a port that is granted and doesn't answer yet, whatever the error and word of another grant
-pub granted_goes : (ws : List Wait) (m x : ℕ) (err : Bool) (word c : ℕ) (err2 : Bool) (word2 : ℕ) (p : PortState) → Granted ws m x err word c p → p.left ≢ 0 → Granted ws m x err word (c + 1) (moved false p err2 word2)
+pub granted_goes : (ws : List Wait) (m x : ℕ) (err : Bool) (word c : ℕ) (err2 : Bool) (word2 : ℕ) (p : PortState) →
+    Granted ws m x err word c p → p.left ≢ 0 → Granted ws m x err word (c + 1) (moved false p err2 word2)
 unfolding port_moves
 granted_goes ws m x err word c err2 word2 p g ne =
     rw (g.busy, ne_eqb p.left 0 ne)
-    (record { list = g.list; busy = refl; waited = g.waited; place = g.place; left = omega (arith, g.left); past = omega (arith, g.past); err_is = g.err_is; word_is = g.word_is })
+    (record {
+      list = g.list;
+      busy = refl;
+      waited = g.waited;
+      place = g.place;
+      left = omega (arith, g.left);
+      past =
+          omega (arith, g.past);
+      err_is = g.err_is;
+      word_is = g.word_is;
+    })

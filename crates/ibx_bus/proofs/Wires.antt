@@ -10,7 +10,14 @@ use Rattle.ibx_secded.proofs.Laws.{encode_of-lt}
 
 -- the code of the bus takes words of 32 bits
 is_code : IsCode 32 7
-is_code = record { least = omega arith; most = omega arith; some = omega arith; columns = omega arith; word = omega arith }
+is_code = record {
+  least = omega arith;
+  most = omega arith;
+  some = omega arith;
+  columns = omega arith;
+  word = omega
+      arith;
+}
 
 pub nothing_fits : IsRequest no_request
 nothing_fits = record { aligned = omega arith; enables = omega arith; word = omega arith }
@@ -19,7 +26,12 @@ pub fetch_fits : (address : ℕ) → address % 4 ≡ 0 → IsRequest (fetch_wire
 fetch_fits address aligned = record { aligned = aligned; enables = omega arith; word = omega arith }
 
 lane_byte-lt : (w : Access) (second : Bool) (k : ℕ) → lane_byte w.addr w.size w.value second k < 256
-lane_byte-lt w second k = elim (is_held w.addr w.size second k) as (λ b. cond b (word_byte w.value (place_of second k - w.addr % 4)) 0 < 256) [ true ↦ omega arith | false ↦ omega arith ]
+lane_byte-lt w second k = elim (is_held w.addr w.size second k) as
+    (λ b. cond b (word_byte w.value (place_of second k - w.addr % 4)) 0 < 256) [
+      | true ↦ omega arith
+      | false ↦ omega
+          arith
+    ]
 
 lanes-lt : (f : ℕ → ℕ) → ((k : ℕ) → f k < 256) → bytes_number f 4 < 2 ^ 32
 unfolding bytes_number
@@ -35,5 +47,6 @@ unfolding request_of lanes_of
 portion_fits w second = record {
   aligned = omega arith;
   enables = bits_number-lt (is_held w.addr w.size second) 4;
-  word = store_word-lt w.store (bytes_number (lane_byte w.addr w.size w.value second) 4) (lanes-lt (lane_byte w.addr w.size w.value second) (lane_byte-lt w second));
+  word = store_word-lt w.store (bytes_number (lane_byte w.addr w.size w.value second) 4)
+      (lanes-lt (lane_byte w.addr w.size w.value second) (lane_byte-lt w second));
 }

@@ -5,7 +5,7 @@ ghost use Rattle.ibx_bus.specs.Memory.{lane_of, merged, stored_word};
 use ibx_ram::CodedRam;
 use ibx_secded::Code;
 
-/// Byte number `place` of the new word where its enable is set, else of the old word.
+// Byte number `place` of the new word where its enable is set, else of the old word.
 #[tactic(auto, using(ibx_bits::proofs::Bytes::byte_by_shift))]
 fn lane(place: u8, enables: u8, old: u64, new: u64) -> u64
     requires { place < 4 }
@@ -20,7 +20,7 @@ fn lane(place: u8, enables: u8, old: u64, new: u64) -> u64
     (word >> (8 * place)) % 256
 }
 
-/// The enabled bytes of the new word and the other bytes of the old one.
+// The enabled bytes of the new word and the other bytes of the old one.
 #[tactic(auto, unfolding(crate::specs::Memory::merged))]
 fn merge(enables: u8, old: u64, new: u64) -> u64
     ensures value { result ≡ merged enables old new }

@@ -1,5 +1,6 @@
 pub mod Comparing
 pub mod Noticed
+pub mod Printed
 pub mod Searching
 pub mod Sizes
 pub mod Telling

@@ -22,7 +22,8 @@ use Rattle.ibx_compare.specs.Verdicts.{IsNoticed, verdict, with_alerts}
 
 -- payloads are of 32 bits
 payloads : (words : List ℕ) → All (λ v. v < 2 ^ 32) (map (λ word. payload_of 32 word) words)
-payloads words = All-map (λ v. v < 2 ^ 32) (λ word. payload_of 32 word) words (λ k d lt. mod_below _ (2 ^ 32) (omega arith))
+payloads words = All-map (λ v. v < 2 ^ 32) (λ word. payload_of 32 word) words (λ k d lt. mod_below _ (2 ^ 32)
+    (omega arith))
 
 -- a system that is as it was opened is in a first state
 new_is_first : (w : Whole State) → IsAsNew w → IsFirst core_parts w
@@ -30,7 +31,8 @@ new_is_first w new =
     let place = first_place (words_in w) w.place.memory.base w.place.settings w.place.iport.waits w.place.dport.waits in
     subst (λ (v : Whole State). IsFirst core_parts v) (sym new.state)
     (first_at_reset core_parts (reset_of w.main.next_pc) (quiet_in, quiet_out) (quiet_in, quiet_out) place refl
-    (codewords_at_reset w.place.settings (words_in w) w.place.memory.base w.place.iport.waits w.place.dport.waits (payloads w.place.memory.words)))
+    (codewords_at_reset w.place.settings (words_in w) w.place.memory.base w.place.iport.waits w.place.dport.waits
+    (payloads w.place.memory.words)))
 
 -- the cycle of an alert with its set
 cycle_of-with : (w : Whole State) (f : Flip) (m : Option ℕ) → option_map (λ a. a.0) (with_alerts w f m) ≡ m
@@ -38,9 +40,11 @@ cycle_of-with w f None = refl
 cycle_of-with w f (Some n) = refl
 
 -- the verdict of a flip on a system as it was opened
-pub is_noticed : (w : Whole State) (f : Flip) (cycles : ℕ) → IsAsNew w → site_fits (length w.place.memory.words) f.site ≡ true → IsNoticed (verdict w f cycles)
+pub is_noticed : (w : Whole State) (f : Flip) (cycles : ℕ) → IsAsNew w → site_fits (length w.place.memory.words) f.site
+    ≡ true → IsNoticed (verdict w f cycles)
 unfolding verdict
 is_noticed w f cycles new fits =
     let start = new_is_first w new in
-    subst (λ m. Bounded (first_diff core_parts w f cycles) m) (sym (cycle_of-with w f (first_alert core_parts w f cycles)))
+    subst (λ m. Bounded (first_diff core_parts w f cycles) m)
+    (sym (cycle_of-with w f (first_alert core_parts w f cycles)))
     (noticed core_parts core_laws w f cycles start (fits_of f.site w.place start.words fits))

@@ -1,5 +1,6 @@
 -- A search that goes on by one number, and what counts as an alert.
-use Rattle.std.proofs.Common.{◌≡◌, ℕ, zero, suc, ◌+◌, ◌≤◌, Bool, true, false, not, Option, Some, None, inl, inr, refl, sym, ap, ◌∙◌, arith}
+use Rattle.std.proofs.Common.{◌≡◌, ℕ, zero, suc, ◌+◌, ◌≤◌, Bool, true, false, not, Option, Some, None, inl, inr, refl}
+use Rattle.std.proofs.Common.{sym, ap, ◌∙◌, arith}
 use Rattle.std.specs.Prelude.{◌||◌, ◌==◌, bit_or}
 use Rattle.std.proofs.lemmas.Bool.{cases_Bool, ne_eqb}
 use Rattle.std.proofs.lemmas.Nat.{le_or_r}
@@ -8,13 +9,15 @@ use Rattle.ibx_soc.specs.Cycles.{alerts_with}
 use Rattle.ibx_compare.specs.Verdicts.{then_test}
 
 -- a search among one number more
-pub first_from-more : (n : ℕ) (test : ℕ → Bool) (t : ℕ) → first_from (suc n) test t ≡ then_test (first_from n test t) (test (t + n)) (t + n)
+pub first_from-more : (n : ℕ) (test : ℕ → Bool) (t : ℕ) → first_from (suc n) test t ≡ then_test (first_from n test t)
+    (test (t + n)) (t + n)
 unfolding first_from
 first_from-more zero test t = ap (λ k. then_test None (test k) k) (let e : t ≡ t + zero = omega arith in e)
 first_from-more (suc n) test t =
     elim (cases_Bool (test t)) [
       | inl hit ↦ rw hit refl
-      | inr miss ↦ rw miss (first_from-more n test (t + 1) ∙ ap (λ k. then_test (first_from n test (t + 1)) (test k) k) (let e : t + 1 + n ≡ t + suc n = omega arith in e))
+      | inr miss ↦ rw miss (first_from-more n test (t + 1) ∙ ap (λ k. then_test (first_from n test (t + 1)) (test k) k)
+          (let e : t + 1 + n ≡ t + suc n = omega arith in e))
     ]
 
 -- a test that fails finds nothing

@@ -1,5 +1,6 @@
 -- A run leaves the count of RAM's words.
-use Rattle.std.proofs.Common.{◌≡◌, ℕ, zero, suc, ◌^◌, Bool, true, false, Option, Some, None, length, refl, ◌∙◌, length-set}
+use Rattle.std.proofs.Common.{◌≡◌, ℕ, zero, suc, ◌^◌, Bool, true, false, Option, Some, None, length, refl, ◌∙◌}
+use Rattle.std.proofs.Common.{length-set}
 use Rattle.std.specs.Prelude.{◌==◌, if◌then◌else◌, bit_xor, slice_index}
 use Rattle.ibx_bus.proofs.Steps.{same_length}
 use Rattle.ibx_plan.specs.declared.site.Flip.{Flip}
@@ -14,7 +15,8 @@ abbrev pub size_of : {S : Type 0} → Whole S → ℕ
 size_of w = length w.place.memory.words
 
 -- of two ways to change a port neither changes the count
-answer_size : (b : Bool) (e f g : Place) → length f.memory.words ≡ length e.memory.words → length g.memory.words ≡ length e.memory.words
+answer_size : (b : Bool) (e f g : Place) → length f.memory.words ≡ length e.memory.words → length g.memory.words ≡
+    length e.memory.words
     → length (if b then f else g).memory.words ≡ length e.memory.words
 answer_size true e f g x y = x
 answer_size false e f g x y = y
@@ -26,7 +28,8 @@ module _ {S : Type 0} (p : Parts S) where
   size_next w = same_length (dgrant_of w.place (output_of p w)) w.place.memory (load_store_of (output_of p w))
 
   -- so does a flip of a delayed wire or of the age
-  delay_size : (age oldest : Bool) (wire bit : ℕ) (w : Whole S) → size_of (delay_flip p age oldest wire bit w) ≡ size_of w
+  delay_size : (age oldest : Bool) (wire bit : ℕ) (w : Whole S) → size_of (delay_flip p age oldest wire bit w) ≡
+      size_of w
   delay_size true oldest wire bit w = refl
   delay_size false true wire bit w = refl
   delay_size false false wire bit w = refl
@@ -42,7 +45,8 @@ module _ {S : Type 0} (p : Parts S) where
   size_flip (site.Line set way half bit) w = refl
   size_flip (site.Output wire bit) w = refl
   size_flip (site.Answer port bit) w = answer_size (port == 0) w.place _ _ refl refl
-  size_flip (site.Mem word bit) w = length-set w.place.memory.words word (bit_xor (slice_index w.place.memory.words word) (2 ^ bit))
+  size_flip (site.Mem word bit) w = length-set w.place.memory.words word
+      (bit_xor (slice_index w.place.memory.words word) (2 ^ bit))
 
   -- also where it is made by a test
   made_by : (b : Bool) (x : Site) (w : Whole S) → size_of (if b then flip p x w else w) ≡ size_of w

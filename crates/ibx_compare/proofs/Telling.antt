@@ -1,5 +1,6 @@
 -- A run up to its next event, and the run from there.
-use Rattle.std.proofs.Common.{◌≡◌, ℕ, zero, suc, ◌+◌, ◌-◌, ◌<◌, ◌≤◌, Bool, true, false, ◌∷◌, Option, Some, None, refl, sym, ap, ◌∙◌, arith}
+use Rattle.std.proofs.Common.{◌≡◌, ℕ, zero, suc, ◌+◌, ◌-◌, ◌<◌, ◌≤◌, Bool, true, false, ◌∷◌, Option, Some, None, refl}
+use Rattle.std.proofs.Common.{sym, ap, ◌∙◌, arith}
 use Rattle.std.specs.List.{cons_option}
 use Rattle.ibx_isa.specs.declared.event.Event.{Event}
 use Rattle.ibx_isa.specs.declared.event.Event.TheVariants.{Retire, Trap, Irq}
@@ -41,7 +42,8 @@ reached_next start w here =
     let count : suc w.place.cycle ≡ (soc_next w).place.cycle = omega (arith, cycle_next w) in
     ap soc_next here ∙ sym (run_more core_parts None w.place.cycle start) ∙ ap (run core_parts start None) count
 
--- What is so of a run up to its next event: its events and its last state are those of the run from there with the event in front, it is on
+-- What is so of a run up to its next event: its events and its last state are those of the run from there with the
+-- event in front, it is on
 -- the way, and it takes the cycles that it counts. Where there is no event nothing is left.
 pub record TellsOn (cycles : ℕ) (w : Whole State) (t : Told) : Type 0 where
   pub events : (drive_from cycles w).events ≡ cons_option t.event (drive_from t.left t.next).events
@@ -74,16 +76,19 @@ tells_after cycles w e b h halt =
     few true = omega arith
     few false = omega arith
 
-    events_after : (b : Bool) → (drive_after b e (soc_next w) (drive_from cycles (soc_next w))).events ≡ e ∷ (drive_from (left_after b cycles) (soc_next w)).events
+    events_after : (b : Bool) → (drive_after b e (soc_next w) (drive_from cycles (soc_next w))).events ≡ e ∷
+        (drive_from (left_after b cycles) (soc_next w)).events
     events_after true = refl
     events_after false = refl
 
-    last_after : (b : Bool) → (drive_after b e (soc_next w) (drive_from cycles (soc_next w))).left ≡ (drive_from (left_after b cycles) (soc_next w)).left
+    last_after : (b : Bool) → (drive_after b e (soc_next w) (drive_from cycles (soc_next w))).left ≡
+        (drive_from (left_after b cycles) (soc_next w)).left
     last_after true = refl
     last_after false = refl
 
 -- by the event of the first cycle and the run after it
-tells_by : (cycles : ℕ) (w : Whole State) (o : Option Event) (rest : Told) → (cycle_of w).event ≡ o → TellsOn cycles (soc_next w) rest
+tells_by : (cycles : ℕ) (w : Whole State) (o : Option Event) (rest : Told) → (cycle_of w).event ≡ o → TellsOn cycles
+    (soc_next w) rest
     → TellsOn (suc cycles) w (told_by o cycles (soc_next w) rest)
 unfolding drive_from drive_by told_by
 tells_by cycles w None rest h tells =
@@ -117,13 +122,15 @@ tells (suc cycles) w = tells_by cycles w (cycle_of w).event (told cycles (soc_ne
 -- ---- one cycle of it
 
 -- no cycle is left
-pub told_none : (cycles left : ℕ) (start w : Whole State) → told left w ≡ told cycles start → left ≤ 0 → told cycles start ≡ record { event = None; left = 0; next = w }
+pub told_none : (cycles left : ℕ) (start w : Whole State) → told left w ≡ told cycles start → left ≤ 0 → told cycles
+    start ≡ record { event = None; left = 0; next = w }
 unfolding told
 told_none cycles zero start w same none = sym same
 told_none cycles (suc left) start w same none = absurd (omega arith)
 
 -- a cycle without an event
-pub told_rests : (cycles left : ℕ) (start w : Whole State) → told left w ≡ told cycles start → 0 < left → (cycle_of w).event ≡ None
+pub told_rests : (cycles left : ℕ) (start w : Whole State) → told left w ≡ told cycles start → 0 < left →
+    (cycle_of w).event ≡ None
     → told (left - 1) (soc_next w) ≡ told cycles start
 unfolding told told_by
 told_rests cycles zero start w same some none = absurd (omega arith)
@@ -133,7 +140,8 @@ told_rests cycles (suc left) start w same some none =
     ∙ sym (ap (λ (o : Option Event). told_by o left (soc_next w) (told left (soc_next w))) none) ∙ same
 
 -- a cycle with an event
-pub told_event : (cycles left : ℕ) (start w : Whole State) (e : Event) (b : Bool) → told left w ≡ told cycles start → 0 < left → (cycle_of w).event ≡ Some e → halts e ≡ b
+pub told_event : (cycles left : ℕ) (start w : Whole State) (e : Event) (b : Bool) → told left w ≡ told cycles start → 0
+    < left → (cycle_of w).event ≡ Some e → halts e ≡ b
     → told cycles start ≡ record { event = Some e; left = left_after b (left - 1); next = soc_next w }
 unfolding told told_by
 told_event cycles zero start w e b same some is halt = absurd (omega arith)
@@ -145,5 +153,6 @@ told_event cycles (suc left) start w e b same some is halt =
     ∙ ap (λ (n : ℕ). record { event = Some e; left = left_after b n; next = soc_next w }) one
 
 -- the event of a cycle that was shown
-pub showed : (cycle : Cycle) (w : Whole State) (event : Option Event) → cycle ≡ cycle_of w → cycle.event ≡ event → (cycle_of w).event ≡ event
+pub showed : (cycle : Cycle) (w : Whole State) (event : Option Event) → cycle ≡ cycle_of w → cycle.event ≡ event →
+    (cycle_of w).event ≡ event
 showed cycle w event shown e = sym (ap (λ (c : Cycle). c.event) shown) ∙ e

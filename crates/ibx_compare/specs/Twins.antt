@@ -1,9 +1,11 @@
 -- How the stories of two systems compare: by the views of their events, in order. Our own rule.
-use Rattle.std.specs.Prelude.{◌≡◌, ◌≢◌, ℕ, zero, suc, ◌+◌, Bool, ◌&&◌, ◌==◌, if◌then◌else◌, List, [], ◌∷◌, map, length, take, Option, Some, None}
+use Rattle.std.specs.Prelude.{⊤, ◌≡◌, ◌≢◌, ◌⊎◌, ◌≤◌, ℕ, zero, suc, ◌+◌, Bool, ◌&&◌, ◌==◌, if◌then◌else◌, List, [], ◌∷◌}
+use Rattle.std.specs.Prelude.{map, length, take, Option, Some, None, IfSome, IsSome}
 use Rattle.std.specs.List.{slice_get}
 use Rattle.std.specs.Option.{option_eq}
 use Rattle.ibx_isa.specs.declared.event.Event.{Event}
 use Rattle.ibx_isa.specs.declared.event.View.{View}
+use Rattle.ibx_isa.specs.Lengths.{IsWordOrHalf}
 use Rattle.ibx_isa.specs.Views.{view_of}
 use Rattle.ibx_story.specs.Stories.{event_cycle, halts}
 use Rattle.ibx_core.specs.declared.state.State.{State}
@@ -46,6 +48,17 @@ abbrev pub IsFirstDifference : List View → List View → Twin → Type 0
 IsFirstDifference xs ys (Same n) = (xs ≡ ys) × (length xs ≡ n)
 IsFirstDifference xs ys (Differ at x y) =
     (take at xs ≡ take at ys) × (slice_get xs at ≡ x) × (slice_get ys at ≡ y) × (x ≢ y)
+
+-- a view that has a line: one of the three kinds, a word or a halfword, and an address where an access is refused
+pub record HasLine (v : View) : Type 0 where
+  pub kind : v.kind ≤ 2
+  pub halfword : IsWordOrHalf v.word
+  pub address : v.kind ≡ 1 → (v.cause ≡ 5) ⊎ (v.cause ≡ 7) → IsSome v.addr
+
+-- the views of an answer have lines
+abbrev pub HaveLines : Twin → Type 0
+HaveLines (Same n) = ⊤
+HaveLines (Differ at x y) = IfSome x HasLine × IfSome y HasLine
 
 -- up to which event the stories were told: that of the difference, or the end
 abbrev pub index_of : Twin → ℕ

@@ -18,7 +18,7 @@ pub struct Verdict {
     pub first_alert: Option<(u64, Alerts)>,
 }
 
-/// The cycles past the budget in which alerts are looked for: the delay of the shadow.
+// The cycles past the budget in which alerts are looked for: the delay of the shadow.
 const MORE: u64 = 2;
 
 // Whether the wires of both buses are equal.

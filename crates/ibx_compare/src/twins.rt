@@ -1,10 +1,11 @@
-ghost use Rattle.std.specs.Prelude.{◌≡◌, ◌≤◌, ◌+◌};
+ghost use Rattle.std.specs.Prelude.{◌≡◌, ◌≤◌, ◌+◌, IfSome};
 ghost use Rattle.std.specs.Option.{option_map};
 ghost use Rattle.ibx_isa.specs.Views.{view_of};
 ghost use Rattle.ibx_flips.specs.Core.{core_parts};
 ghost use Rattle.ibx_flips.specs.Flips.{run};
 ghost use Rattle.ibx_soc.specs.First.{IsAsNew};
-ghost use Rattle.ibx_compare.specs.Twins.{IsFirstDifference, index_of, told, told_cycles, twin_of, views_of};
+ghost use Rattle.ibx_compare.specs.Twins.{HasLine, HaveLines, IsFirstDifference, index_of, told, told_cycles, twin_of};
+ghost use Rattle.ibx_compare.specs.Twins.{views_of};
 
 use crate::comparison::Twin;
 use ibx_isa::{View, view};
@@ -16,6 +17,7 @@ use ibx_story::halts;
 fn next_view(soc: &mut Soc<'_>, left: &mut u64) -> Option<View>
     requires { soc.old.place.cycle + left.old ≤ 1000000000 }
     ensures shown { result ≡ option_map view_of (told left.old soc.old).event }
+    ensures line { IfSome result HasLine }
     ensures left { left.new ≡ (told left.old soc.old).left }
     ensures next { soc.new ≡ (told left.old soc.old).next }
 {
@@ -43,6 +45,8 @@ pub fn twin(a: &mut Soc<'_>, b: &mut Soc<'_>, cycles: u64) -> Twin
     ensures value { result ≡ twin_of cycles a.old b.old }
     // The answer is the first difference of the views, and they are the same exactly where there is none.
     ensures first { IsFirstDifference (views_of cycles a.old) (views_of cycles b.old) result }
+    // The views that it answers have printed lines.
+    ensures lines { HaveLines result }
     // Each system is left after its event of the answer's index, or after its story where that has ended.
     ensures a_left { a.new ≡ run core_parts a.old None (told_cycles cycles (index_of result) a.old) }
     ensures b_left { b.new ≡ run core_parts b.old None (told_cycles cycles (index_of result) b.old) }

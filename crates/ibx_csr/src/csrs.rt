@@ -205,6 +205,7 @@ impl Csrs {
     /// `secureseed` changes nothing here.
     pub fn write(&mut self, addr: u16, value: u32) -> bool
         ensures done { result ≡ csr_can_write (values self.old) addr }
+        ensures refused { result ≡ false → self.new ≡ self.old }
         ensures fields { self.new ≡ write_of self.old addr value }
         ensures values { values self.new ≡ csr_write (values self.old) addr value }
         ensures others { OthersStay (values self.old) (values self.new) addr }
@@ -217,6 +218,7 @@ impl Csrs {
     #[tactic(auto, unfolding(crate::specs::Values::csr_can_write, crate::specs::Fields::values, crate::specs::Fields::write_of))]
     fn write_at(&mut self, addr: u16, value: u32) -> bool
         ensures done { result ≡ csr_can_write (values self.old) addr }
+        ensures refused { result ≡ false → self.new ≡ self.old }
         ensures fields { self.new ≡ write_of self.old addr value }
     {
         if (addr >> 10) & 3 == 3 {

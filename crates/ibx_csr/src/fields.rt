@@ -5,7 +5,7 @@ use crate::csrs::Csrs;
 
 // The protection unit's registers by their numbers.
 impl Csrs {
-    // Word `index` of the configuration, or 0 for a higher number.
+    /// Word `index` of the configuration, or 0 for a higher number.
     pub(crate) fn cfg(&self, index: u8) -> u32
         ensures { result ≡ slice_index (cfgs self.now) index }
     {
@@ -18,7 +18,7 @@ impl Csrs {
         }
     }
 
-    // Address `index`, or 0 for a higher number.
+    /// Address `index`, or 0 for a higher number.
     pub(crate) fn addr(&self, index: u8) -> u32
         ensures { result ≡ slice_index (addrs self.now) index }
     {
@@ -43,7 +43,7 @@ impl Csrs {
         }
     }
 
-    // Writes word `index` of the configuration, and its complement.
+    /// Writes word `index` of the configuration, and its complement.
     pub(crate) fn put_cfg(&mut self, index: u8, value: u32)
         ensures { self.new ≡ put_cfg self.old index value }
     {
@@ -68,7 +68,7 @@ impl Csrs {
         }
     }
 
-    // Writes address `index`, and its complement.
+    /// Writes address `index`, and its complement.
     pub(crate) fn put_addr(&mut self, index: u8, value: u32)
         ensures { self.new ≡ put_addr self.old index value }
     {

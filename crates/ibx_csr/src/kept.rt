@@ -8,7 +8,7 @@ use ibx_isa::control::MPP;
 // The lock of a configuration byte.
 const LOCK: u8 = 0x80;
 
-// mstatus after a write: a value of MPP other than 3 becomes 0.
+/// mstatus after a write: a value of MPP other than 3 becomes 0.
 pub(crate) fn stored_mstatus(value: u32) -> u32
     ensures { result ≡ mstatus_after value }
 {
@@ -53,7 +53,7 @@ fn kept_byte(old: u8, new: u8) -> u8
     }
 }
 
-// Four configuration bytes after a write.
+/// Four configuration bytes after a write.
 pub(crate) fn stored_cfg(old: u32, value: u32) -> u32
     ensures { result ≡ cfg_after old value }
 {

@@ -25,7 +25,7 @@ const EM_RISCV: u16 = 243;
 // The `e_phnum` of a file whose number of program headers stands elsewhere.
 const PN_XNUM: u16 = 0xffff;
 
-// Checks the file header, all but its entry.
+/// Checks the file header, all but its entry.
 #[tactic(auto, unfolding(crate::specs::Faults::file_header_fault))]
 pub(crate) fn check_file_header(file: &[u8]) -> Result<(), ElfFault>
     ensures fault { Reports result (file_header_fault file.now) }
@@ -66,7 +66,7 @@ pub(crate) fn check_file_header(file: &[u8]) -> Result<(), ElfFault>
     Ok(())
 }
 
-// Checks that the file bytes of each segment lie within the file and fill no more than its memory.
+/// Checks that the file bytes of each segment lie within the file and fill no more than its memory.
 #[tactic(auto, using(crate::proofs::Searching::steps), unfolding(crate::specs::Faults::segment_fault))]
 pub(crate) fn check_segments(file: &[u8]) -> Result<(), ElfFault>
     requires { HasHeaders file.now }
@@ -80,7 +80,7 @@ pub(crate) fn check_segments(file: &[u8]) -> Result<(), ElfFault>
     Ok(())
 }
 
-// Checks that the memory of each segment lies in RAM.
+/// Checks that the memory of each segment lies in RAM.
 #[tactic(auto, using(crate::proofs::Searching::steps), unfolding(crate::specs::Faults::outside_fault))]
 pub(crate) fn check_ranges(file: &[u8], ram: Ram) -> Result<(), ElfFault>
     requires { HasHeaders file.now }
@@ -129,8 +129,8 @@ fn are_ascending(file: &[u8]) -> bool
     true
 }
 
-// Checks that the file bytes of no two segments share an address. Pairs are compared only where the file
-// bytes don't come in ascending order, as linkers write them.
+/// Checks that the file bytes of no two segments share an address. Pairs are compared only where the file
+/// bytes don't come in ascending order, as linkers write them.
 #[tactic(auto, using(crate::proofs::Searching::steps))]
 pub(crate) fn check_overlaps(file: &[u8]) -> Result<(), ElfFault>
     requires { HasHeaders file.now }
@@ -145,7 +145,7 @@ pub(crate) fn check_overlaps(file: &[u8]) -> Result<(), ElfFault>
     Ok(())
 }
 
-// Checks that the entry is even and in RAM.
+/// Checks that the entry is even and in RAM.
 #[tactic(auto, unfolding(crate::specs::Faults::entry_fault))]
 pub(crate) fn check_entry(file: &[u8], ram: Ram) -> Result<(), ElfFault>
     requires { 52 ≤ length file.now }

@@ -53,8 +53,8 @@ fn put_segment(file: &[u8], i: u16, ram: Ram, words: &mut [u32])
     }
 }
 
-// Makes the words those of a RAM that a file without a fault is loaded into: 0, but for the file bytes of
-// each segment. It walks the program headers once.
+/// Makes the words those of a RAM that a file without a fault is loaded into: 0, but for the file bytes of
+/// each segment. It walks the program headers once.
 pub(crate) fn fill_words(file: &[u8], ram: Ram, words: &mut [u32])
     requires well_formed { IsWellFormed file.now ram }
     requires count { 4 * length words.old ≡ ram.size }

@@ -19,7 +19,7 @@ pub(crate) fn count_segments(file: &[u8]) -> u16
     count
 }
 
-/// The file bytes of a loadable segment that lies within the file.
+// The file bytes of a loadable segment that lies within the file.
 fn file_bytes(file: &[u8], header: ProgramHeader) -> &[u8]
     requires load { is_load header ≡ true }
     requires within { overruns (length file.now) header ≡ false }

@@ -131,20 +131,19 @@ fn tells_the_first_fault(rt: HostRuntime) {
     file[45] = 0xff;
     assert_eq!(rt; fault_of(&file), Some(ElfFault::TooMany));
 
-    // The file with one program header is cut off.
-    for (name, bytes, fault) in [
-        ("an empty file", 0, ElfFault::Short),
-        ("one byte short of a file header", 51, ElfFault::Short),
-        ("a file header alone", 52, ElfFault::Headers),
-        ("one byte short of the headers", 83, ElfFault::Headers),
-        ("headers alone", 84, ElfFault::Segment(0)),
-        ("one byte short of the segment", 95, ElfFault::Segment(0)),
+    // The file with one program header is cut to each shorter length.
+    for (first, last, fault) in [
+        (0, 51, ElfFault::Short),
+        (52, 83, ElfFault::Headers),
+        (84, 95, ElfFault::Segment(0)),
     ] {
-        assert_eq!(rt;
-            fault_of(ONE.get(..bytes).unwrap_or(&[])),
-            Some(fault),
-            "at {name}"
-        );
+        for bytes in first..=last {
+            assert_eq!(rt;
+                fault_of(ONE.get(..bytes).unwrap_or(&ONE)),
+                Some(fault),
+                "at {bytes} bytes"
+            );
+        }
     }
 
     // The second program header has other values.

@@ -125,7 +125,8 @@ flips = 0
 
 -- ---- systems at reset
 
--- the first state with this entry, these words in RAM from 0x00100000 on, these waits, and these changes of the interrupt lines
+-- the first state with this entry, these words in RAM from 0x00100000 on, these waits, and these changes of the
+-- interrupt lines
 loaded : ℕ → List ℕ → List Wait → List Wait → List Change → Whole State
 unfolding system
 loaded entry ram iwaits dwaits changes = record {

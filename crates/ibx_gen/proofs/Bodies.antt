@@ -1,5 +1,6 @@
 -- How long the program is, and what its words are.
-use Rattle.std.proofs.Common.{◌≡◌, ℕ, zero, suc, ◌+◌, ◌*◌, ◌^◌, ◌<◌, List, [], ◌∷◌, ◌++◌, length, refl, ap, ◌∙◌, arith, length-append, append-nil, add-one, sym}
+use Rattle.std.proofs.Common.{◌≡◌, ℕ, zero, suc, ◌+◌, ◌*◌, ◌^◌, ◌<◌, List, [], ◌∷◌, ◌++◌, length, refl, ap, ◌∙◌, arith}
+use Rattle.std.proofs.Common.{length-append, append-nil, add-one, sym}
 use Rattle.std.specs.List.{All}
 use Rattle.std.specs.Prelude.{slice_index}
 use Rattle.std.proofs.lemmas.List.Elements.{All-append, All-cons, All-get_or, All-nil}
@@ -31,12 +32,16 @@ unfolding body draw_of
 start seed code = (refl, sym (append-nil code))
 
 -- one draw more
-pub next : (seed n x : ℕ) (code more : List ℕ) → x ≡ next_draw (draw_of seed n) → more ≡ (code ++ bytes_of (body seed n)) ++ word (body_word x)
+pub next : (seed n x : ℕ) (code more : List ℕ) → x ≡ next_draw (draw_of seed n) → more ≡
+    (code ++ bytes_of (body seed n)) ++ word (body_word x)
     → (x ≡ draw_of seed (n + 1)) × (more ≡ code ++ bytes_of (body seed (n + 1)))
 unfolding body draw_of
 next seed n x code more drawn appended =
-    rw (add-one n)
-    (drawn, appended ∙ flat_map_more word code (body seed n) (body_word x) ∙ ap (λ (y : ℕ). code ++ bytes_of (body seed n ++ body_word y ∷ [])) drawn)
+    rw (add-one n) (
+      drawn,
+      appended ∙ flat_map_more word code (body seed n) (body_word x) ∙ ap
+          (λ (y : ℕ). code ++ bytes_of (body seed n ++ body_word y ∷ [])) drawn,
+    )
 
 -- the program's bytes
 pub length-code : (seed : ℕ) → length (bytes_of (program seed)) ≡ 16420

@@ -1,5 +1,6 @@
 -- The file that a number gives has no fault, and its image is the program.
-use Rattle.std.proofs.Common.{◌≡◌, ℕ, ◌+◌, ◌-◌, ◌*◌, ◌/◌, ◌%◌, ◌^◌, ◌<◌, true, false, ◌&&◌, List, length, take, refl, ◌∙◌, ap, arith, subst}
+use Rattle.std.proofs.Common.{◌≡◌, ℕ, ◌+◌, ◌-◌, ◌*◌, ◌/◌, ◌%◌, ◌^◌, ◌<◌, true, false, ◌&&◌, List, length, take, refl}
+use Rattle.std.proofs.Common.{◌∙◌, ap, arith, subst}
 use Rattle.std.proofs.lemmas.Bool.Decides.{nat_tests}
 use Rattle.std.proofs.lemmas.List.{length-take-le}
 use Rattle.std.proofs.lemmas.List.Concat.{get_or-flat_map}
@@ -25,7 +26,8 @@ takes seed = record {
 -- the file has no fault
 pub generated-well_formed : (seed : ℕ) → IsWellFormed (generated seed) default_ram
 unfolding generated
-generated-well_formed seed = wrapped-well_formed (bytes_of (program seed)) default_ram (omega (arith, length-code seed)) (takes seed)
+generated-well_formed seed = wrapped-well_formed (bytes_of (program seed)) default_ram
+    (omega (arith, length-code seed)) (takes seed)
 
 -- 84 bytes of headers, and the code
 pub length-generated : (seed : ℕ) → length (generated seed) ≡ 16504
@@ -33,35 +35,42 @@ unfolding generated
 length-generated seed = omega (arith, length-wrapped (bytes_of (program seed)), length-code seed)
 
 -- a byte of code where it stands
-byte_there : (code : List ℕ) (ram : Ram) (k : ℕ) → k < length code → image_byte (image_of_code code ram) (code_address + k) ≡ slice_index code k
+byte_there : (code : List ℕ) (ram : Ram) (k : ℕ) → k < length code → image_byte (image_of_code code ram)
+    (code_address + k) ≡ slice_index code k
 unfolding image_byte
 byte_there code ram k inside =
-    let here : (nat_le code_address (code_address + k) && nat_lt (code_address + k) (code_address + length code)) ≡ true = grind (arith, nat_tests) in
+    let here : (nat_le code_address (code_address + k) && nat_lt (code_address + k) (code_address + length code)) ≡
+    true = grind (arith, nat_tests) in
     let back : code_address + k - code_address ≡ k = omega arith in
     rw (here, back) refl
 
 -- and none before or after
-byte_elsewhere : (code : List ℕ) (ram : Ram) (addr : ℕ) → (nat_le code_address addr && nat_lt addr (code_address + length code)) ≡ false
+byte_elsewhere : (code : List ℕ) (ram : Ram) (addr : ℕ) → (nat_le code_address addr && nat_lt addr
+    (code_address + length code)) ≡ false
     → image_byte (image_of_code code ram) addr ≡ 0
 unfolding image_byte
 byte_elsewhere code ram addr out = rw out refl
 
 -- byte j of word i
-byte_of_word : (words : List ℕ) (i j : ℕ) → i < length words → j < 4 → slice_index (bytes_of words) (4 * i + j) ≡ slice_index (word (slice_index words i)) j
+byte_of_word : (words : List ℕ) (i j : ℕ) → i < length words → j < 4 → slice_index (bytes_of words) (4 * i + j) ≡
+    slice_index (word (slice_index words i)) j
 byte_of_word words i j inside low =
     let start : length (bytes_of (take i words)) ≡ 4 * i =
     length-bytes_of (take i words) ∙ ap (λ (n : ℕ). 4 * n) (length-take-le i words (omega arith)) in
-    subst (λ (n : ℕ). slice_index (bytes_of words) (n + j) ≡ slice_index (word (slice_index words i)) j) start (get_or-flat_map word words i j 0 0 inside low)
+    subst (λ (n : ℕ). slice_index (bytes_of words) (n + j) ≡ slice_index (word (slice_index words i)) j) start
+    (get_or-flat_map word words i j 0 0 inside low)
 
 -- the same where it is loaded
 lane : (words : List ℕ) (ram : Ram) (i j addr : ℕ) → i < length words → j < 4 → addr ≡ code_address + (4 * i + j)
     → image_byte (image_of_code (bytes_of words) ram) addr ≡ slice_index (word (slice_index words i)) j
 lane words ram i j addr inside low at =
     rw at
-    (byte_there (bytes_of words) ram (4 * i + j) (omega (arith, length-bytes_of words)) ∙ byte_of_word words i j inside low)
+    (byte_there (bytes_of words) ram (4 * i + j) (omega (arith, length-bytes_of words)) ∙ byte_of_word words i j inside
+    low)
 
 -- a number of 32 bits by its bytes
-by_bytes : (w : ℕ) → w < 2 ^ 32 → w % 256 + 256 * (w / 256 % 256) + 65536 * (w / 65536 % 256) + 16777216 * (w / 16777216 % 256) ≡ w
+by_bytes : (w : ℕ) → w < 2 ^ 32 → w % 256 + 256 * (w / 256 % 256) + 65536 * (w / 65536 % 256) + 16777216 *
+    (w / 16777216 % 256) ≡ w
 by_bytes w fits = omega arith
 
 -- the words of code that is made of words

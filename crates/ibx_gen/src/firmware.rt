@@ -11,13 +11,13 @@ use ibx_base::NoMemory;
 use ibx_wrap::wrap;
 use std::alloc::Global;
 
-/// Before the body: x5 has the address of its data, 0x0011_0000, and x4 how often it runs.
+// Before the body: x5 has the address of its data, 0x0011_0000, and x4 how often it runs.
 const OPENING: [u32; 2] = [0x0011_02b7, 0x0100_0213];
 
-/// The words of the body.
+// The words of the body.
 const BODY_WORDS: usize = 4_096;
 
-/// After the body: the next turn, until x4 is 0, and then the store that ends the run.
+// After the body: the next turn, until x4 is 0, and then the store that ends the run.
 const CLOSING: [u32; 7] = [
     0x0000_0013,
     0xfff2_0213,
@@ -28,10 +28,10 @@ const CLOSING: [u32; 7] = [
     0x0073_2423,
 ];
 
-/// Bytes of the program.
+// Bytes of the program.
 const PROGRAM_BYTES: usize = 4 * (OPENING.len() + BODY_WORDS + CLOSING.len());
 
-/// Appends the bytes of words, the lowest of each first.
+// Appends the bytes of words, the lowest of each first.
 fn append_words(code: &mut Vec<u8>, words: &[u32]) -> Result<(), NoMemory>
     ensures { OnOk result (code.new.items ≡ code.old.items ++ bytes_of words.now) }
 {
@@ -41,7 +41,7 @@ fn append_words(code: &mut Vec<u8>, words: &[u32]) -> Result<(), NoMemory>
     Ok(())
 }
 
-/// Appends the body's bytes: one draw a word.
+// Appends the body's bytes: one draw a word.
 fn append_body(code: &mut Vec<u8>, seed: u32) -> Result<(), NoMemory>
     ensures { OnOk result (code.new.items ≡ code.old.items ++ bytes_of (body seed 4096)) }
 {
@@ -53,7 +53,7 @@ fn append_body(code: &mut Vec<u8>, seed: u32) -> Result<(), NoMemory>
     Ok(())
 }
 
-/// The program's bytes.
+// The program's bytes.
 #[tactic(auto, unfolding(crate::specs::Words::program))]
 fn program_of(alloc: Global, seed: u32) -> Result<Vec<u8>, NoMemory>
     ensures { IfOk result (λ code. code.items ≡ bytes_of (program seed)) }

@@ -19,7 +19,7 @@ const BNE_8: u32 = 0x0000_1463;
 
 const SUB: u32 = 0x4000_0033;
 
-/// The three bits of a draw from bit `low` on.
+// The three bits of a draw from bit `low` on.
 fn three_bits(draw: u32, low: u32) -> u32
     requires { low < 32 }
     ensures value { result ≡ bits_at draw low 3 }

@@ -6,7 +6,7 @@ use crate::bounds::PlanFault;
 // The most entries of each list.
 const MOST: usize = 65_536;
 
-// Adds the entry of the line of this number to a list.
+/// Adds the entry of the line of this number to a list.
 pub(crate) fn append<T: Copy>(entries: &mut Vec<T>, entry: T, line: u32) -> Result<(), PlanFault>
     ensures leaves { Leaves result entries.new.items (appended entries.old.items entry line) }
     ensures refused { OnErr result (entries.new.items ≡ entries.old.items) }

@@ -70,7 +70,7 @@ impl Changes {
         }
     }
 
-    // Whether a change is in a later cycle than those so far.
+    /// Whether a change is in a later cycle than those so far.
     pub(crate) fn are_before(&self, change: Change) -> bool
         ensures { result ≡ follows self.now change }
     {

@@ -131,7 +131,7 @@ fn entry_of(words: &Words, row: Row, bounds: &Bounds) -> Result<Entry, LineKind>
     entry.ok_or(LineKind::Range)
 }
 
-// The entry of a line that isn't skipped, or the first fault that it has.
+/// The entry of a line that isn't skipped, or the first fault that it has.
 #[tactic(auto, unfolding(crate::specs::Line::row_entry))]
 pub(crate) fn line_entry(words: &Words, bounds: &Bounds) -> Result<Entry, LineKind>
     ensures { result ≡ line_entry bounds.now words.now }

@@ -109,7 +109,7 @@ impl Plan {
         }
     }
 
-    // Adds what the line of this number says.
+    /// Adds what the line of this number says.
     #[tactic(auto, unfolding(crate::specs::Plan::with_line))]
     pub(crate) fn add_line(
         &mut self,

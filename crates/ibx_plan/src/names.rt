@@ -193,7 +193,7 @@ pub fn field_named(name: &str) -> Option<u8>
     field_number(name.as_bytes())
 }
 
-// The width of a field in bits, 0 where there is no such field.
+/// The width of a field in bits, 0 where there is no such field.
 #[tactic(auto, unfolding(crate::specs::Names::fields))]
 pub(crate) fn field_width(field: u8) -> u8
     ensures { result ≡ width_in fields field }
@@ -215,7 +215,7 @@ pub(crate) fn wire_number(name: &[u8]) -> Option<u8>
     place(&WIRE_TABLE, name)
 }
 
-// The width of a delayed wire in bits, 0 where there is no such wire.
+/// The width of a delayed wire in bits, 0 where there is no such wire.
 #[tactic(auto, unfolding(crate::specs::Names::wires))]
 pub(crate) fn wire_width(wire: u8) -> u8
     ensures { result ≡ width_in wires wire }
@@ -229,7 +229,7 @@ pub(crate) fn output_number(name: &[u8]) -> Option<u8>
     place(&OUTPUT_TABLE, name)
 }
 
-// The width of a word that the memories hand to the core, 0 where there is no such word.
+/// The width of a word that the memories hand to the core, 0 where there is no such word.
 #[tactic(auto, unfolding(crate::specs::Names::outputs))]
 pub(crate) fn output_width(wire: u8) -> u8
     ensures { result ≡ width_in outputs wire }

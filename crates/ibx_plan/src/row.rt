@@ -42,7 +42,7 @@ pub enum Row {
     Flip(Target),
 }
 
-// Whether a line says nothing: it is empty, or a comment.
+/// Whether a line says nothing: it is empty, or a comment.
 pub(crate) fn is_skipped(words: &Words) -> bool
     ensures { result ≡ is_skipped words.now }
 {
@@ -104,7 +104,7 @@ fn target_of(words: &Words) -> Option<Target>
     }
 }
 
-// What the words and names of a line say, `None` where they fit no row.
+/// What the words and names of a line say, `None` where they fit no row.
 #[tactic(auto, unfolding(crate::specs::Line::row_of, crate::specs::Line::short_rows))]
 pub(crate) fn row_of(words: &Words) -> Option<Row>
     ensures { result ≡ row_of words.now }
@@ -140,7 +140,7 @@ fn are_site_numbers(words: &Words, target: Target) -> bool
     }
 }
 
-// Whether each word in a number's place is a number.
+/// Whether each word in a number's place is a number.
 #[tactic(auto, unfolding(crate::specs::Line::number_places))]
 pub(crate) fn are_numbers(words: &Words, row: Row) -> bool
     ensures { result ≡ are_numbers words.now (number_places row) }

@@ -165,6 +165,20 @@ fn refused_texts(rt: HostRuntime) -> Result<(), Fail> {
     Ok(())
 }
 
+// A line without a line feed, cut to each length: nothing is accepted, and so is the whole.
+#[test]
+fn cut_texts(rt: HostRuntime) {
+    let text = "iwait 1 0";
+    for bytes in 0..=9 {
+        let expected = match bytes {
+            0 | 9 => None,
+            _ => Some(PlanFault::Line(1, LineKind::Word)),
+        };
+        let cut = text.get(..bytes).unwrap_or(text);
+        assert_eq!(rt; fault(rt.alloc(), cut, 0), expected, "at {cut:?}");
+    }
+}
+
 static FLIPS: [(&str, Site); 11] = [
     (
         "flip 999 main id_word 15",

@@ -8,7 +8,7 @@ use std::marker::Model;
 // One more than the longest row has.
 const MOST: usize = 8;
 
-// The words of a line, without those past the eighth.
+/// The words of a line, without those past the eighth.
 #[derive(Drop)]
 pub(crate) struct Words<'a> {
     first: [&'a [u8]; MOST],
@@ -47,7 +47,7 @@ impl<'a> Words<'a> {
         self.count += 1;
     }
 
-    // The words of a line, parted by spaces and tabs.
+    /// The words of a line, parted by spaces and tabs.
     pub(crate) fn of(line: &'a [u8]) -> Words<'a>
         ensures { result ≡ first_words line.now }
     {
@@ -68,7 +68,7 @@ impl<'a> Words<'a> {
         self.count
     }
 
-    // The word at an index, empty where the line has no such word.
+    /// The word at an index, empty where the line has no such word.
     pub(crate) fn at(&self, index: usize) -> &'a [u8]
         ensures { result.now ≡ word self.now index }
     {
@@ -96,7 +96,7 @@ fn line_end(text: &[u8]) -> Option<usize>
     text.iter().position(|byte| *byte == b'\n')
 }
 
-// The first line of a text that isn't empty, and what follows it.
+/// The first line of a text that isn't empty, and what follows it.
 #[tactic(auto, using(crate::proofs::Lines::first_of, crate::proofs::Lines::only_line))]
 pub(crate) fn first_line(text: &[u8]) -> (&[u8], &[u8])
     requires { 0 < length text.now }

@@ -28,7 +28,7 @@ impl<const K: usize, const R: usize> Model for CodedRam<K, R> {
     ghost invariant = { λ ram. IsCodedRam K R ram.payloads.items ram.checks.items };
 }
 
-/// The payload of a word, of at most 32 bits.
+// The payload of a word, of at most 32 bits.
 #[tactic(auto, using(crate::proofs::Planes::narrow))]
 fn payload<const K: usize, const R: usize>(word: u64) -> u32
     requires code { IsCode K R }
@@ -39,7 +39,7 @@ fn payload<const K: usize, const R: usize>(word: u64) -> u32
     Code::<K, R>::payload(word) as u32
 }
 
-/// The stored check bits of a word.
+// The stored check bits of a word.
 #[tactic(auto, using(crate::proofs::Planes::narrow))]
 fn check<const K: usize, const R: usize>(word: u64) -> u8
     requires code { IsCode K R }
@@ -50,7 +50,7 @@ fn check<const K: usize, const R: usize>(word: u64) -> u8
     (word >> K) as u8
 }
 
-/// The word of a payload below its stored check bits.
+// The word of a payload below its stored check bits.
 #[tactic(auto, using(ibx_secded::proofs::Words::cat_is, ibx_secded::proofs::Words::cat_lt))]
 fn join<const K: usize, const R: usize>(payload: u32, check: u8) -> u64
     requires code { IsCode K R }
@@ -93,7 +93,7 @@ impl<const K: usize, const R: usize> CodedRam<K, R> {
         join::<K, R>(self.payloads[i as usize], self.checks[i as usize])
     }
 
-    /// Writes word `i` into the planes.
+    // Writes word `i` into the planes.
     #[tactic(auto, using(crate::proofs::Planes::reads))]
     fn set(&mut self, i: u32, payload: u32, check: u8)
         requires inside { i < length self.old }

@@ -1,13 +1,18 @@
 -- The laws of a code.
-use Rattle.std.proofs.Common.{◌≡◌, ℕ, zero, suc, ◌+◌, ◌-◌, ◌*◌, ◌/◌, ◌%◌, ◌^◌, ◌<◌, ◌≤◌, List, [], ◌∷◌, length, get_or, Bool, true, not, cond, eqb, ltb, arith, refl, sym, ◌∙◌, ap, add-one, inl, inr, ◌≢◌, add_comm}
+use Rattle.std.proofs.Common.{◌≡◌, ℕ, zero, suc, ◌+◌, ◌-◌, ◌*◌, ◌/◌, ◌%◌, ◌^◌, ◌<◌, ◌≤◌, List, [], ◌∷◌, length, get_or}
+use Rattle.std.proofs.Common.{Bool, true, not, cond, eqb, ltb, arith, refl, sym, ◌∙◌, ap, add-one, inl, inr, ◌≢◌}
+use Rattle.std.proofs.Common.{add_comm}
 use Rattle.std.specs.Prelude.{◌&&◌, nat_lt}
 use Rattle.std.specs.Int.{bit_at}
 use Rattle.std.specs.Int.Bits.{bit_xor, xor_assoc, xor_self, xor_zero_r, xor_zero_l, xor_shr, xor_mod}
-use Rattle.std.proofs.lemmas.Nat.{pow_pos, xor_lt, pow_below, shr_high, mod_low, shr_split, mod_below, pow-add, shl-shr, shr_below}
+use Rattle.std.proofs.lemmas.Nat.{pow_pos, xor_lt, pow_below, shr_high, mod_low, shr_split, mod_below, pow-add, shl-shr}
+use Rattle.std.proofs.lemmas.Nat.{shr_below}
 use Rattle.std.proofs.Math.Nat.{mul-mod_left, mod-eq_of_lt, div-eq_of_lt}
 use Rattle.std.proofs.lemmas.Nat.Bits.{bit_at-lt, bit_at_xor, bit_at-pow_same, bit_at-pow_other}
-use Rattle.std.proofs.lemmas.Bool.{ltb-true, lt-ltb, le-ltb, eqb-false, not-true, and_parts, cases_eq, cases_lt, cases_order}
-use Rattle.ibx_secded.specs.Code.{columns, column, checks, constant, payload_of, syndrome_of, encode_of, rewrite_of, IsCode, IsCodeword}
+use Rattle.std.proofs.lemmas.Bool.{ltb-true, lt-ltb, le-ltb, eqb-false, not-true, and_parts, cases_eq, cases_lt}
+use Rattle.std.proofs.lemmas.Bool.{cases_order}
+use Rattle.ibx_secded.specs.Code.{columns, column, checks, constant, payload_of, syndrome_of, encode_of, rewrite_of}
+use Rattle.ibx_secded.specs.Code.{IsCode, IsCodeword}
 use Rattle.ibx_secded.proofs.Columns.{columns_4, columns_5, columns_6, columns_7, columns_8, by_height, length-columns}
 use Rattle.ibx_secded.proofs.Words.{xor_cancel, xor_swap, xor_zero, xor_same, cat_lt}
 
@@ -27,7 +32,8 @@ columns_fit : (h : ℕ) → 4 ≤ h → h ≤ 8 → all_below (2 ^ h) (columns h
 unfolding all_below
 columns_fit =
     by_height (λ h. all_below (2 ^ h) (columns h) ≡ true)
-    (ap (all_below 16) columns_4) (ap (all_below 32) columns_5) (ap (all_below 64) columns_6) (ap (all_below 128) columns_7) (ap (all_below 256) columns_8)
+    (ap (all_below 16) columns_4) (ap (all_below 32) columns_5) (ap (all_below 64) columns_6)
+    (ap (all_below 128) columns_7) (ap (all_below 256) columns_8)
 
 pub column-lt : (h : ℕ) → 4 ≤ h → h ≤ 8 → (i : ℕ) → column h i < 2 ^ h
 unfolding column
@@ -42,7 +48,8 @@ pub checks-lt : (h : ℕ) → 4 ≤ h → h ≤ 8 → (n v : ℕ) → checks h n
 unfolding checks
 checks-lt h l m zero v = pow_pos h
 checks-lt h l m (suc i) v =
-    xor_lt h (checks h i v) (bit_at v i * column h i) (checks-lt h l m i v) (bit_times (bit_at v i) (column h i) (2 ^ h) (bit_at-lt v i) (column-lt h l m i))
+    xor_lt h (checks h i v) (bit_at v i * column h i) (checks-lt h l m i v) (bit_times (bit_at v i) (column h i)
+    (2 ^ h) (bit_at-lt v i) (column-lt h l m i))
 
 pub constant-lt : (h : ℕ) → constant h < 2 ^ h
 constant-lt h = mod_below 170 (2 ^ h) (pow_pos h)
@@ -58,7 +65,8 @@ checks-more h i v = rw add-one refl
 -- ---- words of a payload and stored check bits
 
 module _ (k h : ℕ) where
-  pub syndrome_of-cat : (s v : ℕ) → v < 2 ^ k → syndrome_of k h (s * 2 ^ k + v) ≡ bit_xor (bit_xor s (constant h)) (checks h k v)
+  pub syndrome_of-cat : (s v : ℕ) → v < 2 ^ k → syndrome_of k h (s * 2 ^ k + v) ≡ bit_xor (bit_xor s (constant h))
+      (checks h k v)
   unfolding syndrome_of
   syndrome_of-cat s v hv = rw (shr_high s k v hv, mod_low s k v hv) refl
 
@@ -76,8 +84,10 @@ module _ (k h : ℕ) where
   pub encode_of-payload : (w : ℕ) → syndrome_of k h w ≡ 0 → w ≡ encode_of k h (payload_of k w)
   unfolding syndrome_of encode_of
   encode_of-payload w e =
-      let sides : bit_xor (w / 2 ^ k) (constant h) ≡ checks h k (w % 2 ^ k) = xor_zero (bit_xor (w / 2 ^ k) (constant h)) (checks h k (w % 2 ^ k)) e in
-      let stored : w / 2 ^ k ≡ bit_xor (checks h k (w % 2 ^ k)) (constant h) = sym (xor_cancel (w / 2 ^ k) (constant h)) ∙ ap (λ (x : ℕ). bit_xor x (constant h)) sides in
+      let sides : bit_xor (w / 2 ^ k) (constant h) ≡ checks h k (w % 2 ^ k) = xor_zero
+      (bit_xor (w / 2 ^ k) (constant h)) (checks h k (w % 2 ^ k)) e in
+      let stored : w / 2 ^ k ≡ bit_xor (checks h k (w % 2 ^ k)) (constant h) = sym
+      (xor_cancel (w / 2 ^ k) (constant h)) ∙ ap (λ (x : ℕ). bit_xor x (constant h)) sides in
       sym (shr_split w k) ∙ ap (λ (x : ℕ). x * 2 ^ k + w % 2 ^ k) stored
 
   -- a codeword, in the words of the check matrix
@@ -90,10 +100,12 @@ module _ (k h : ℕ) where
   syndrome_of-codeword w e = rw e (xor_self (checks h k (w % 2 ^ k)))
 
   -- the word whose check bits are those of its payload with the bits of x wrong
-  pub syndrome_of-rewrite : (x v : ℕ) → v < 2 ^ k → syndrome_of k h (bit_xor (bit_xor x (constant h)) (checks h k v) * 2 ^ k + v) ≡ x
+  pub syndrome_of-rewrite : (x v : ℕ) → v < 2 ^ k → syndrome_of k h (bit_xor (bit_xor x (constant h)) (checks h k v) *
+      2 ^ k + v) ≡ x
   syndrome_of-rewrite x v hv =
       syndrome_of-cat (bit_xor (bit_xor x (constant h)) (checks h k v)) v hv
-      ∙ ap (λ (y : ℕ). bit_xor y (checks h k v)) (xor_swap (bit_xor x (constant h)) (checks h k v) (constant h) ∙ ap (λ (y : ℕ). bit_xor y (checks h k v)) (xor_cancel x (constant h)))
+      ∙ ap (λ (y : ℕ). bit_xor y (checks h k v)) (xor_swap (bit_xor x (constant h)) (checks h k v) (constant h) ∙ ap
+      (λ (y : ℕ). bit_xor y (checks h k v)) (xor_cancel x (constant h)))
       ∙ xor_cancel x (checks h k v)
 
 -- ---- one bit flipped
@@ -110,7 +122,8 @@ checks-flip_above : (h n v b : ℕ) → n ≤ b → checks h n (bit_xor v (2 ^ b
 unfolding checks
 checks-flip_above h zero v b le = refl
 checks-flip_above h (suc i) v b le =
-    let same : bit_at (bit_xor v (2 ^ b)) i ≡ bit_at v i = bit_at_xor v (2 ^ b) i ∙ omega (arith, bit_at-pow_other b i (omega arith), bit_at-lt v i) in
+    let same : bit_at (bit_xor v (2 ^ b)) i ≡ bit_at v i = bit_at_xor v (2 ^ b) i ∙ omega
+    (arith, bit_at-pow_other b i (omega arith), bit_at-lt v i) in
     rw (checks-flip_above h i v b (omega arith), same) refl
 
 pub checks-flip : (h n v b : ℕ) → b < n → checks h n (bit_xor v (2 ^ b)) ≡ bit_xor (checks h n v) (column h b)
@@ -119,12 +132,16 @@ checks-flip h zero v b lt = absurd (omega arith)
 checks-flip h (suc i) v b lt =
     elim (cases_eq i b) [
       | inl e ↦
-          let here : bit_at (bit_xor v (2 ^ b)) i ≡ (bit_at v i + 1) % 2 = bit_at_xor v (2 ^ b) i ∙ rw e (ap (λ (x : ℕ). (bit_at v b + x) % 2) (bit_at-pow_same b)) in
+          let here : bit_at (bit_xor v (2 ^ b)) i ≡ (bit_at v i + 1) % 2 = bit_at_xor v (2 ^ b) i ∙ rw e
+          (ap (λ (x : ℕ). (bit_at v b + x) % 2) (bit_at-pow_same b)) in
           rw (checks-flip_above h i v b (omega arith), here, toggled (bit_at v i) (column h i) (bit_at-lt v i))
-          (sym (xor_assoc (checks h i v) (bit_at v i * column h i) (column h i)) ∙ ap (λ (x : ℕ). bit_xor (bit_xor (checks h i v) (bit_at v i * column h i)) (column h x)) e)
+          (sym (xor_assoc (checks h i v) (bit_at v i * column h i) (column h i)) ∙ ap
+          (λ (x : ℕ). bit_xor (bit_xor (checks h i v) (bit_at v i * column h i)) (column h x)) e)
       | inr ne ↦
-          let same : bit_at (bit_xor v (2 ^ b)) i ≡ bit_at v i = bit_at_xor v (2 ^ b) i ∙ omega (arith, bit_at-pow_other b i ne, bit_at-lt v i) in
-          rw (checks-flip h i v b (omega (arith, ne)), same) (xor_swap (checks h i v) (column h b) (bit_at v i * column h i))
+          let same : bit_at (bit_xor v (2 ^ b)) i ≡ bit_at v i = bit_at_xor v (2 ^ b) i ∙ omega
+          (arith, bit_at-pow_other b i ne, bit_at-lt v i) in
+          rw (checks-flip h i v b (omega (arith, ne)), same) (xor_swap (checks h i v) (column h b)
+          (bit_at v i * column h i))
     ]
 
 -- ---- the columns are apart, and none is a power of two
@@ -153,16 +170,20 @@ distinct_at : (xs : List ℕ) → distinct xs ≡ true → (i j : ℕ) → i < j
 unfolding distinct
 distinct_at [] e i j lt below = absurd (omega arith)
 distinct_at (x ∷ xs) e i zero lt below = absurd (omega arith)
-distinct_at (x ∷ xs) e zero (suc j) lt below = is_new_at x xs (and_parts (is_new x xs) (distinct xs) e).0 j (omega arith)
-distinct_at (x ∷ xs) e (suc i) (suc j) lt below = distinct_at xs (and_parts (is_new x xs) (distinct xs) e).1 i j (omega arith) (omega arith)
+distinct_at (x ∷ xs) e zero (suc j) lt below = is_new_at x xs (and_parts (is_new x xs) (distinct xs) e).0 j
+    (omega arith)
+distinct_at (x ∷ xs) e (suc i) (suc j) lt below = distinct_at xs (and_parts (is_new x xs) (distinct xs) e).1 i j
+    (omega arith) (omega arith)
 
-no_power_at : (n : ℕ) (xs : List ℕ) → no_power n xs ≡ true → (k : ℕ) → k < n → (i : ℕ) → i < length xs → 2 ^ k ≢ get_or xs i 0
+no_power_at : (n : ℕ) (xs : List ℕ) → no_power n xs ≡ true → (k : ℕ) → k < n → (i : ℕ) → i < length xs → 2 ^ k ≢ get_or
+    xs i 0
 unfolding no_power
 no_power_at zero xs e k lt i below = absurd (omega arith)
 no_power_at (suc n) xs e k lt i below =
     elim (cases_eq k n) [
       | inl same ↦ rw same (is_new_at (2 ^ n) xs (and_parts (is_new (2 ^ n) xs) (no_power n xs) e).0 i below)
-      | inr other ↦ no_power_at n xs (and_parts (is_new (2 ^ n) xs) (no_power n xs) e).1 k (omega (arith, other)) i below
+      | inr other ↦ no_power_at n xs (and_parts (is_new (2 ^ n) xs) (no_power n xs) e).1 k (omega (arith, other)) i
+          below
     ]
 
 -- apart, none 0 and none a power of two
@@ -173,7 +194,8 @@ columns_sound : (h : ℕ) → 4 ≤ h → h ≤ 8 → sound h (columns h) ≡ tr
 unfolding sound distinct is_new no_power
 columns_sound =
     by_height (λ h. sound h (columns h) ≡ true)
-    (ap (sound 4) columns_4) (ap (sound 5) columns_5) (ap (sound 6) columns_6) (ap (sound 7) columns_7) (ap (sound 8) columns_8)
+    (ap (sound 4) columns_4) (ap (sound 5) columns_5) (ap (sound 6) columns_6) (ap (sound 7) columns_7)
+    (ap (sound 8) columns_8)
 
 module _ (h : ℕ) (l : 4 ≤ h) (m : h ≤ 8) where
   parts : (distinct (columns h) ≡ true) × ((is_new 0 (columns h) && no_power h (columns h)) ≡ true)
@@ -233,35 +255,42 @@ syndrome_of-flip k h w b =
     elim (cases_lt b k) [
       | inl lt ↦
           let small : 2 ^ b < 2 ^ k = pow_below b k lt in
-          let above : bit_xor w (2 ^ b) / 2 ^ k ≡ w / 2 ^ k = xor_shr w (2 ^ b) k ∙ rw (div-eq_of_lt small) (xor_zero_r (w / 2 ^ k)) in
-          let low : bit_xor w (2 ^ b) % 2 ^ k ≡ bit_xor (w % 2 ^ k) (2 ^ b) = xor_mod w (2 ^ b) k ∙ ap (λ (x : ℕ). bit_xor (w % 2 ^ k) x) (mod-eq_of_lt small) in
+          let above : bit_xor w (2 ^ b) / 2 ^ k ≡ w / 2 ^ k = xor_shr w (2 ^ b) k ∙ rw (div-eq_of_lt small)
+          (xor_zero_r (w / 2 ^ k)) in
+          let low : bit_xor w (2 ^ b) % 2 ^ k ≡ bit_xor (w % 2 ^ k) (2 ^ b) = xor_mod w (2 ^ b) k ∙ ap
+          (λ (x : ℕ). bit_xor (w % 2 ^ k) x) (mod-eq_of_lt small) in
           rw (above, low, checks-flip h k (w % 2 ^ k) b lt, effect-low k h b lt)
           (sym (xor_assoc (bit_xor (w / 2 ^ k) (constant h)) (checks h k (w % 2 ^ k)) (column h b)))
       | inr le ↦
           let whole : 2 ^ b ≡ 2 ^ (b - k) * 2 ^ k = ap (λ (x : ℕ). 2 ^ x) (omega arith) ∙ pow-add 2 (b - k) k in
           let above : bit_xor w (2 ^ b) / 2 ^ k ≡ bit_xor (w / 2 ^ k) (2 ^ (b - k)) =
-          xor_shr w (2 ^ b) k ∙ ap (λ (x : ℕ). bit_xor (w / 2 ^ k) x) (ap (λ (x : ℕ). x / 2 ^ k) whole ∙ shl-shr (2 ^ (b - k)) k) in
+          xor_shr w (2 ^ b) k ∙ ap (λ (x : ℕ). bit_xor (w / 2 ^ k) x) (ap (λ (x : ℕ). x / 2 ^ k) whole ∙ shl-shr
+          (2 ^ (b - k)) k) in
           let low : bit_xor w (2 ^ b) % 2 ^ k ≡ w % 2 ^ k =
-          xor_mod w (2 ^ b) k ∙ ap (λ (x : ℕ). bit_xor (w % 2 ^ k) x) (ap (λ (x : ℕ). x % 2 ^ k) whole ∙ mul-mod_left (2 ^ (b - k)) (2 ^ k)) ∙ xor_zero_r (w % 2 ^ k) in
+          xor_mod w (2 ^ b) k ∙ ap (λ (x : ℕ). bit_xor (w % 2 ^ k) x) (ap (λ (x : ℕ). x % 2 ^ k) whole ∙ mul-mod_left
+          (2 ^ (b - k)) (2 ^ k)) ∙ xor_zero_r (w % 2 ^ k) in
           rw (above, low, effect-high k h b le)
           (ap (λ (x : ℕ). bit_xor x (checks h k (w % 2 ^ k))) (xor_swap (w / 2 ^ k) (2 ^ (b - k)) (constant h))
           ∙ xor_swap (bit_xor (w / 2 ^ k) (constant h)) (2 ^ (b - k)) (checks h k (w % 2 ^ k)))
     ]
 
-pub payload_flip : (k h w b : ℕ) → b < k → syndrome_of k h (bit_xor w (2 ^ b)) ≡ bit_xor (syndrome_of k h w) (column h b)
+pub payload_flip : (k h w b : ℕ) → b < k → syndrome_of k h (bit_xor w (2 ^ b)) ≡ bit_xor (syndrome_of k h w)
+    (column h b)
 payload_flip k h w b lt = syndrome_of-flip k h w b ∙ ap (λ (x : ℕ). bit_xor (syndrome_of k h w) x) (effect-low k h b lt)
 
 pub check_flip : (k h w b : ℕ) → syndrome_of k h (bit_xor w (2 ^ (k + b))) ≡ bit_xor (syndrome_of k h w) (2 ^ b)
 check_flip k h w b =
     let place : k + b - k ≡ b = omega arith in
     syndrome_of-flip k h w (k + b)
-    ∙ ap (λ (x : ℕ). bit_xor (syndrome_of k h w) x) (effect-high k h (k + b) (omega arith) ∙ ap (λ (x : ℕ). 2 ^ x) place)
+    ∙ ap (λ (x : ℕ). bit_xor (syndrome_of k h w) x) (effect-high k h (k + b) (omega arith) ∙ ap (λ (x : ℕ). 2 ^ x)
+    place)
 
 module _ (k h : ℕ) (code : IsCode k h) where
   effect-nonzero : (b : ℕ) → b < k + h → effect k h b ≢ 0
   effect-nonzero b lt e =
       elim (cases_lt b k) [
-        | inl low ↦ column-nonzero h code.least code.most b (omega (arith, code.columns)) (sym (effect-low k h b low) ∙ e)
+        | inl low ↦ column-nonzero h code.least code.most b (omega (arith, code.columns))
+            (sym (effect-low k h b low) ∙ e)
         | inr high ↦ absurd (omega (arith, pow_pos (b - k), sym (effect-high k h b high) ∙ e))
       ]
 
@@ -269,40 +298,51 @@ module _ (k h : ℕ) (code : IsCode k h) where
   effect-apart a b la lb ne e =
       elim (cases_lt a k) [
         | inl a-low ↦ elim (cases_lt b k) [
-          | inl b-low ↦ column-apart h code.least code.most a b ne (omega (arith, code.columns)) (omega (arith, code.columns)) (sym (effect-low k h a a-low) ∙ e ∙ effect-low k h b b-low)
-          | inr b-high ↦ column-power h code.least code.most (b - k) a (omega arith) (omega (arith, code.columns)) (sym (effect-high k h b b-high) ∙ sym e ∙ effect-low k h a a-low)
+          | inl b-low ↦ column-apart h code.least code.most a b ne (omega (arith, code.columns))
+              (omega (arith, code.columns)) (sym (effect-low k h a a-low) ∙ e ∙ effect-low k h b b-low)
+          | inr b-high ↦ column-power h code.least code.most (b - k) a (omega arith) (omega (arith, code.columns))
+              (sym (effect-high k h b b-high) ∙ sym e ∙ effect-low k h a a-low)
         ]
         | inr a-high ↦ elim (cases_lt b k) [
-          | inl b-low ↦ column-power h code.least code.most (a - k) b (omega arith) (omega (arith, code.columns)) (sym (effect-high k h a a-high) ∙ e ∙ effect-low k h b b-low)
-          | inr b-high ↦ pow-apart (a - k) (b - k) (λ same. ne (omega (arith, same))) (sym (effect-high k h a a-high) ∙ e ∙ effect-high k h b b-high)
+          | inl b-low ↦ column-power h code.least code.most (a - k) b (omega arith) (omega (arith, code.columns))
+              (sym (effect-high k h a a-high) ∙ e ∙ effect-low k h b b-low)
+          | inr b-high ↦ pow-apart (a - k) (b - k) (λ same. ne (omega (arith, same))) (sym (effect-high k h a a-high) ∙
+              e ∙ effect-high k h b b-high)
         ]
       ]
 
   -- one flipped bit is told
   pub one_flip : (w b : ℕ) → b < k + h → syndrome_of k h (bit_xor w (2 ^ b)) ≢ syndrome_of k h w
-  one_flip w b lt e = effect-nonzero b lt (xor_same (syndrome_of k h w) (effect k h b) (sym (syndrome_of-flip k h w b) ∙ e))
+  one_flip w b lt e = effect-nonzero b lt (xor_same (syndrome_of k h w) (effect k h b) (sym (syndrome_of-flip k h w b)
+      ∙ e))
 
   -- two flipped bits are told
-  pub two_flips : (w a b : ℕ) → a < k + h → b < k + h → a ≢ b → syndrome_of k h (bit_xor (bit_xor w (2 ^ a)) (2 ^ b)) ≢ syndrome_of k h w
+  pub two_flips : (w a b : ℕ) → a < k + h → b < k + h → a ≢ b → syndrome_of k h (bit_xor (bit_xor w (2 ^ a)) (2 ^ b)) ≢
+      syndrome_of k h w
   two_flips w a b la lb ne e =
       let both : bit_xor (syndrome_of k h w) (bit_xor (effect k h a) (effect k h b)) ≡ syndrome_of k h w =
-      sym (xor_assoc (syndrome_of k h w) (effect k h a) (effect k h b)) ∙ ap (λ (x : ℕ). bit_xor x (effect k h b)) (sym (syndrome_of-flip k h w a)) ∙ sym (syndrome_of-flip k h (bit_xor w (2 ^ a)) b) ∙ e in
-      effect-apart a b la lb ne (xor_zero (effect k h a) (effect k h b) (xor_same (syndrome_of k h w) (bit_xor (effect k h a) (effect k h b)) both))
+      sym (xor_assoc (syndrome_of k h w) (effect k h a) (effect k h b)) ∙ ap (λ (x : ℕ). bit_xor x (effect k h b))
+      (sym (syndrome_of-flip k h w a)) ∙ sym (syndrome_of-flip k h (bit_xor w (2 ^ a)) b) ∙ e in
+      effect-apart a b la lb ne (xor_zero (effect k h a) (effect k h b)
+      (xor_same (syndrome_of k h w) (bit_xor (effect k h a) (effect k h b)) both))
 
 -- ---- what the code computes
 
-pub encoded : (k h v check const w : ℕ) → check ≡ checks h k v → const ≡ constant h → w ≡ bit_xor check const * 2 ^ k + v → w ≡ encode_of k h v
+pub encoded : (k h v check const w : ℕ) → check ≡ checks h k v → const ≡ constant h → w ≡ bit_xor check const * 2 ^ k +
+    v → w ≡ encode_of k h v
 unfolding encode_of
 encoded k h v check const w a b e = e ∙ rw (a, b) refl
 
-pub told : (k h w check const p : ℕ) → p ≡ payload_of k w → check ≡ checks h k p → const ≡ constant h → bit_xor (bit_xor (w / 2 ^ k) const) check ≡ syndrome_of k h w
+pub told : (k h w check const p : ℕ) → p ≡ payload_of k w → check ≡ checks h k p → const ≡ constant h → bit_xor
+    (bit_xor (w / 2 ^ k) const) check ≡ syndrome_of k h w
 unfolding syndrome_of
 told k h w check const p a b e = rw (b, e, a) refl
 
 pub payload_of-cat : (k s v : ℕ) → v < 2 ^ k → payload_of k (s * 2 ^ k + v) ≡ v
 payload_of-cat k s v hv = mod_low s k v hv
 
-pub rewritten : (k h old x v check const w : ℕ) → x ≡ syndrome_of k h old → check ≡ checks h k v → const ≡ constant h → w ≡ bit_xor (bit_xor x const) check * 2 ^ k + v → w ≡ rewrite_of k h old v
+pub rewritten : (k h old x v check const w : ℕ) → x ≡ syndrome_of k h old → check ≡ checks h k v → const ≡ constant h →
+    w ≡ bit_xor (bit_xor x const) check * 2 ^ k + v → w ≡ rewrite_of k h old v
 unfolding rewrite_of
 rewritten k h old x v check const w d a b e = e ∙ rw (d, a, b) refl
 
@@ -312,7 +352,8 @@ syndrome_of-rewrite_of k h old v hv = syndrome_of-rewrite k h (syndrome_of k h o
 
 pub payload_of-rewrite_of : (k h old v : ℕ) → v < 2 ^ k → payload_of k (rewrite_of k h old v) ≡ v
 unfolding rewrite_of
-payload_of-rewrite_of k h old v hv = payload_of-cat k (bit_xor (bit_xor (syndrome_of k h old) (constant h)) (checks h k v)) v hv
+payload_of-rewrite_of k h old v hv = payload_of-cat k (bit_xor (bit_xor (syndrome_of k h old) (constant h))
+    (checks h k v)) v hv
 
 -- ---- the sizes of what the code computes
 
@@ -320,16 +361,19 @@ pub syndrome_of-lt : (k h w : ℕ) → IsCode k h → w < 2 ^ (k + h) → syndro
 unfolding syndrome_of
 syndrome_of-lt k h w code fits =
     let above : w / 2 ^ k < 2 ^ h = shr_below w h k (rw add_comm fits) in
-    xor_lt h (bit_xor (w / 2 ^ k) (constant h)) (checks h k (w % 2 ^ k)) (xor_lt h (w / 2 ^ k) (constant h) above (constant-lt h)) (checks-lt h code.least code.most k (w % 2 ^ k))
+    xor_lt h (bit_xor (w / 2 ^ k) (constant h)) (checks h k (w % 2 ^ k)) (xor_lt h (w / 2 ^ k) (constant h) above
+    (constant-lt h)) (checks-lt h code.least code.most k (w % 2 ^ k))
 
 pub encode_of-lt : (k h v : ℕ) → IsCode k h → v < 2 ^ k → encode_of k h v < 2 ^ (k + h)
 unfolding encode_of
 encode_of-lt k h v code fits =
-    cat_lt (bit_xor (checks h k v) (constant h)) v k h (xor_lt h (checks h k v) (constant h) (checks-lt h code.least code.most k v) (constant-lt h)) fits
+    cat_lt (bit_xor (checks h k v) (constant h)) v k h (xor_lt h (checks h k v) (constant h)
+    (checks-lt h code.least code.most k v) (constant-lt h)) fits
 
 pub rewrite_of-lt : (k h old v : ℕ) → IsCode k h → old < 2 ^ (k + h) → v < 2 ^ k → rewrite_of k h old v < 2 ^ (k + h)
 unfolding rewrite_of
 rewrite_of-lt k h old v code old_fits fits =
     cat_lt (bit_xor (bit_xor (syndrome_of k h old) (constant h)) (checks h k v)) v k h
-    (xor_lt h (bit_xor (syndrome_of k h old) (constant h)) (checks h k v) (xor_lt h (syndrome_of k h old) (constant h) (syndrome_of-lt k h old code old_fits) (constant-lt h)) (checks-lt h code.least code.most k v))
+    (xor_lt h (bit_xor (syndrome_of k h old) (constant h)) (checks h k v) (xor_lt h (syndrome_of k h old) (constant h)
+    (syndrome_of-lt k h old code old_fits) (constant-lt h)) (checks-lt h code.least code.most k v))
     fits

@@ -6,7 +6,8 @@ use Rattle.ibx_secded.specs.Code.{checks, column}
 use Rattle.ibx_secded.proofs.Laws.{checks-none, checks-more, checks-lt}
 use Rattle.ibx_secded.proofs.Columns.{length-columns}
 
-pub step : (h i v check col : ℕ) → check ≡ checks h i v → col ≡ column h i → bit_xor check (bit_and (v / 2 ^ i) 1 * col) ≡ checks h (i + 1) v
+pub step : (h i v check col : ℕ) → check ≡ checks h i v → col ≡ column h i → bit_xor check
+    (bit_and (v / 2 ^ i) 1 * col) ≡ checks h (i + 1) v
 step h i v check col e f = rw (e, f, shr_and_one v i) (sym (checks-more h i v))
 
 pub product_fits : (v i col : ℕ) → col < 256 → bit_and (v / 2 ^ i) 1 * col < 256

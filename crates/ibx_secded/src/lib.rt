@@ -5,6 +5,8 @@
 #![tactic(auto)]
 
 mod tables;
+#[cfg(test)]
+mod tests;
 
 ghost use Rattle.std.specs.Prelude.{◌≡◌, ◌≢◌, ◌↔◌, ◌+◌, ◌-◌, ◌*◌, ◌<◌, ◌≤◌, ◌^◌, ◌%◌, ℕ, length, slice_index, bit_xor};
 ghost use Rattle.ibx_secded.specs.Code.{IsCode, IsCodeword, IsHeight, column, columns, checks, encode_of, syndrome_of, payload_of, rewrite_of, constant as constant_of};
@@ -35,7 +37,7 @@ static COLUMNS_8: [u8; 120] = [
     229, 230, 233, 234, 236, 241, 242, 244, 248, 127, 191, 223, 239, 247, 251, 253, 254,
 ];
 
-/// The columns of the check matrix of this height.
+// The columns of the check matrix of this height.
 fn columns_of(height: usize) -> &'static [u8]
     requires { IsHeight height }
     ensures { result.now ≡ columns height }
@@ -49,7 +51,7 @@ fn columns_of(height: usize) -> &'static [u8]
     }
 }
 
-/// Column `index` of the check matrix of this height.
+// Column `index` of the check matrix of this height.
 #[tactic(auto, unfolding(crate::specs::Code::column))]
 fn column_at(height: usize, index: usize) -> u64
     requires high { IsHeight height }
@@ -60,7 +62,7 @@ fn column_at(height: usize, index: usize) -> u64
     columns_of(height)[index] as u64
 }
 
-/// The check bits that are inverted as they are stored: bit k exactly for odd k.
+// The check bits that are inverted as they are stored: bit k exactly for odd k.
 fn constant(height: usize) -> u64
     requires { IsHeight height }
     ensures value { result ≡ constant_of height }
@@ -108,7 +110,7 @@ impl<const K: usize, const R: usize> Code<K, R> {
         }
     }
 
-    /// A payload below its stored check bits.
+    // A payload below its stored check bits.
     #[tactic(auto, using(crate::proofs::Words::cat_is, crate::proofs::Words::cat_lt))]
     fn join(stored: u64, value: u64) -> u64
         requires code { IsCode K R }
@@ -186,39 +188,5 @@ impl<const K: usize, const R: usize> Code<K, R> {
         ensures fits { result < 2 ^ (K + R) }
     {
         word ^ (1 << bit)
-    }
-}
-
-#[cfg(test)]
-mod tests {
-    use super::*;
-
-    #[test]
-    fn words_of_both_codes(rt: HostRuntime) {
-        let codewords = [
-            (0, 0x2a_0000_0000),
-            (1, 0x2d_0000_0001),
-            (0xffff_ffff, 0x29_ffff_ffff),
-        ];
-        for (value, word) in codewords {
-            assert_eq!(rt; Code::<32, 7>::encode(value), word);
-        }
-        assert_eq!(rt; Code::<32, 7>::syndrome(0x2a_0100_0000), 0x4a);
-        assert_eq!(rt;
-            Code::<32, 7>::rewrite(0x2a_0100_0000, 0x0100_0001),
-            0x2d_0100_0001
-        );
-        assert_eq!(rt; Code::<32, 7>::payload(0x2d_0100_0001), 0x0100_0001);
-        assert_eq!(rt; Code::<32, 7>::flip(0x2d_0000_0001, 38), 0x6d_0000_0001);
-        assert_eq!(rt; Code::<22, 6>::encode(0), 0xa80_0000);
-
-        // Columns of the check matrix: the first and the last, alone and with others.
-        let checks = [(0x1, 7), (0xf, 15), (0x8000_0000, 98), (0x8000_0001, 101)];
-        for (value, check) in checks {
-            assert_eq!(rt; Code::<32, 7>::check(value), check);
-            assert_eq!(rt; Code::<32, 7>::plain_check(value), check);
-        }
-        assert_eq!(rt; Code::<22, 6>::check(0x30_0000), 48);
-        assert_eq!(rt; Code::<4, 4>::check(0xf), 15);
     }
 }

@@ -24,7 +24,7 @@ static TABLES_22: [[u8; 16]; 6] = [
     [0, 31, 47, 48, 0, 31, 47, 48, 0, 31, 47, 48, 0, 31, 47, 48],
 ];
 
-/// Entry `four` of table `place` of `Code<32, 7>`.
+// Entry `four` of table `place` of `Code<32, 7>`.
 fn entry_32(place: usize, four: usize) -> u64
     requires place { place < 8 }
     requires four { four < 16 }
@@ -33,7 +33,7 @@ fn entry_32(place: usize, four: usize) -> u64
     TABLES_32[place][four] as u64
 }
 
-/// Entry `four` of table `place` of `Code<22, 6>`. Bits 22 and 23 have no column.
+// Entry `four` of table `place` of `Code<22, 6>`. Bits 22 and 23 have no column.
 fn entry_22(place: usize, four: usize) -> u64
     requires place { place < 6 }
     requires four { four < 16 }

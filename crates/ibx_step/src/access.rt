@@ -15,7 +15,7 @@ use ibx_isa::{Access, LoadOp, access_size, low_bytes, parts, portion_bytes, port
 use ibx_pmp::{AccessKind, allow};
 
 impl Machine {
-    // Ends an instruction that retires.
+    /// Ends an instruction that retires.
     pub(crate) fn retire(&mut self, retirement: Retirement) -> Done
         ensures left { left_in result self.new ≡ retiring (state_of self.old) retirement }
         ensures done { result ≡ Done.Retires retirement }
@@ -25,7 +25,7 @@ impl Machine {
         Done::Retires(retirement)
     }
 
-    // Ends an instruction that writes a register at most.
+    /// Ends an instruction that writes a register at most.
     pub(crate) fn plain(&mut self, rd: u8, value: u32, next_pc: u32) -> Done
         requires { rd < 32 }
         ensures left { left_in result self.new ≡ plain (state_of self.old) rd value next_pc }
@@ -41,7 +41,7 @@ impl Machine {
         })
     }
 
-    // Ends an instruction that traps.
+    /// Ends an instruction that traps.
     pub(crate) fn trap(&mut self, cause: u8, tval: u32, addr: u32) -> Done
         ensures left { left_in result self.new ≡ trap (state_of self.old) cause tval addr }
         ensures place { KeepsPlace self.old self.new }
@@ -51,7 +51,7 @@ impl Machine {
         Done::Traps { cause, tval, addr }
     }
 
-    // Ends an illegal instruction.
+    /// Ends an illegal instruction.
     pub(crate) fn illegal(&mut self, word: u32) -> Done
         ensures left { left_in result self.new ≡ illegal (state_of self.old) word }
         ensures place { KeepsPlace self.old self.new }
@@ -91,7 +91,7 @@ impl Machine {
         }
     }
 
-    // A load of a byte address.
+    /// A load of a byte address.
     #[tactic(auto, unfolding(ibx_arch::specs::Effects::load))]
     pub(crate) fn load(&mut self, op: LoadOp, rd: u8, addr: u32, next_pc: u32) -> Done
         requires { rd < 32 }
@@ -121,7 +121,7 @@ impl Machine {
         })
     }
 
-    // A store to a byte address.
+    /// A store to a byte address.
     #[tactic(auto, unfolding(ibx_arch::specs::Effects::store))]
     pub(crate) fn store(&mut self, size: u8, addr: u32, value: u32, next_pc: u32) -> Done
         requires { IsAccessSize size }

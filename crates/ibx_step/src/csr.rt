@@ -8,8 +8,8 @@ use ibx_csr::is_control_at;
 use ibx_isa::{CsrOp, writes, written};
 use ibx_trap::leave;
 
-// A CSR instruction: the operation, the register that takes the old value, the source field and the source's
-// value, and the CSR's address.
+/// A CSR instruction: the operation, the register that takes the old value, the source field and the source's
+/// value, and the CSR's address.
 #[derive(Clone, Copy)]
 pub(crate) struct CsrAccess {
     pub op: CsrOp,
@@ -20,7 +20,7 @@ pub(crate) struct CsrAccess {
 }
 
 impl Machine {
-    // A CSR instruction, at a cycle with these interrupt lines.
+    /// A CSR instruction, at a cycle with these interrupt lines.
     #[tactic(auto, unfolding(ibx_arch::specs::Effects::csr_access, ibx_csr::specs::Values::csr_can_write, ibx_csr::specs::Values::csr_tick))]
     pub(crate) fn csr(&mut self, access: CsrAccess, word: u32, next_pc: u32, lines: u32) -> Done
         requires { access.rd < 32 }
@@ -54,7 +54,7 @@ impl Machine {
         })
     }
 
-    // MRET.
+    /// MRET.
     #[tactic(auto, unfolding(ibx_arch::specs::Effects::return_from_trap))]
     pub(crate) fn return_from_trap(&mut self, word: u32) -> Done
         ensures left { left_in result self.new ≡ return_from_trap (state_of self.old) word }

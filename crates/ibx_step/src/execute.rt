@@ -12,7 +12,7 @@ use ibx_isa::{Insn, MdOp, MulKind, alu, branch};
 use ibx_muldiv::MulDiv;
 
 impl Machine {
-    // What an instruction does, whose word and length in bytes are these.
+    /// What an instruction does, whose word and length in bytes are these.
     #[tactic(auto, unfolding(ibx_arch::specs::Effects::execute))]
     pub(crate) fn execute(&mut self, insn: Insn, word: u32, length: u32, lines: u32) -> Done
         requires sound { IsWellFormed insn }

@@ -12,7 +12,7 @@ use ibx_decoder::instruction;
 use ibx_isa::{Insn, is_long};
 use ibx_pmp::{AccessKind, PmpRegs, allow};
 
-// What was fetched, decoded.
+/// What was fetched, decoded.
 #[derive(Clone, Copy)]
 pub(crate) enum Prepared {
     /// The parcel at this byte address can't be executed.
@@ -24,7 +24,7 @@ pub(crate) enum Prepared {
 }
 
 impl Machine {
-    // The entries of the protection unit.
+    /// The entries of the protection unit.
     pub(crate) fn protection(&self) -> PmpRegs
         ensures cfg { result.cfg ≡ cfg_bytes (values self.now.csrs) }
         ensures addr { result.addr ≡ (values self.now.csrs).pmpaddr }
@@ -45,7 +45,7 @@ impl Machine {
             && allow(&self.protection(), addr, 2, AccessKind::Execute, machine)
     }
 
-    // What is fetched at the program counter, of these two parcels.
+    /// What is fetched at the program counter, of these two parcels.
     #[tactic(auto, unfolding(ibx_arch::specs::Fetch::fetch))]
     pub(crate) fn fetch(&self, first: u16, second: u16) -> Fetched
         requires { self.now.pc % 2 ≡ 0 }
@@ -71,7 +71,7 @@ impl Machine {
         }
     }
 
-    // What is fetched at the program counter, of these two parcels, and decoded.
+    /// What is fetched at the program counter, of these two parcels, and decoded.
     #[tactic(auto, unfolding(crate::specs::Preparing::prepared_from))]
     pub(crate) fn prepare(&self, first: u16, second: u16) -> Prepared
         requires { self.now.pc % 2 ≡ 0 }
@@ -87,7 +87,7 @@ impl Machine {
         }
     }
 
-    // Whether it is a WFI that isn't illegal.
+    /// Whether it is a WFI that isn't illegal.
     pub(crate) fn waits(&self, prepared: Prepared) -> bool
         ensures { result ≡ is_wait_of (values self.now.csrs) prepared }
     {

@@ -57,6 +57,7 @@ impl Machine {
         requires cycle { cycle < 2 ^ 62 }
         requires aligned { IsAligned (state_of self.old) }
         ensures stepped { Steps (state_of self.old) (present_step (state_of self.old) cycle) result (state_of self.new) }
+        ensures refused { result ≡ None → self.new ≡ self.old }
         ensures aligned { IsAligned (state_of self.new) }
         ensures printable { IfSome result IsPrintable }
     {
@@ -198,7 +199,7 @@ impl Machine {
         }
     }
 
-    // A register's value; x0 reads as 0.
+    /// A register's value; x0 reads as 0.
     pub(crate) fn reg(&self, n: u8) -> u32
         requires { n < 32 }
         ensures { result ≡ reg (state_of self.now) n }

@@ -1,11 +1,13 @@
 -- The file around code has no fault, and its image is the code.
-use Rattle.std.proofs.Common.{◌≡◌, ℕ, ◌+◌, ◌^◌, ◌<◌, Bool, true, false, List, length, take, refl, ap, arith, Option, None}
+use Rattle.std.proofs.Common.{◌≡◌, ℕ, ◌+◌, ◌^◌, ◌<◌, Bool, true, false, List, length, take, refl, ap, arith, Option}
+use Rattle.std.proofs.Common.{None}
 use Rattle.std.proofs.lemmas.Bool.Decides.{nat_tests}
 use Rattle.std.specs.Option.{option_or}
 use Rattle.std.proofs.Math.Seq.{take-length}
 use Rattle.std.specs.Prelude.{nat_lt}
 use Rattle.ibx_elf.specs.declared.ram.Ram.{Ram}
-use Rattle.ibx_elf.specs.Faults.{IsWellFormed, first_fault, file_header_fault, segment_fault, outside_fault, first_overlap, overlap_fault, entry_fault, overruns, leaves, is_bad_entry}
+use Rattle.ibx_elf.specs.Faults.{IsWellFormed, first_fault, file_header_fault, segment_fault, outside_fault}
+use Rattle.ibx_elf.specs.Faults.{first_overlap, overlap_fault, entry_fault, overruns, leaves, is_bad_entry}
 use Rattle.ibx_elf.specs.Fields.{field, e_entry, e_phnum, program_header, is_load}
 use Rattle.ibx_elf.specs.Image.{image_of, segments_below}
 use Rattle.ibx_elf.specs.Search.{first_below, only_if}
@@ -62,11 +64,13 @@ header_passes code =
     neither _ _ (only_if-false _ _ long) (neither _ _ (only_if-false _ _ within) refl)
 
 -- the segment lies within the file, and fills its memory
-segment_passes : (code : List ℕ) → length code < 2 ^ 32 → first_below (segment_fault (wrapped code)) (e_phnum (wrapped code)) ≡ None
+segment_passes : (code : List ℕ) → length code < 2 ^ 32 → first_below (segment_fault (wrapped code))
+    (e_phnum (wrapped code)) ≡ None
 unfolding first_below segment_fault
 segment_passes code fits =
     let says = describes code fits in
-    let within : overruns (length (wrapped code)) (program_header (wrapped code) 0) ≡ false = grind (arith, nat_tests, length-wrapped) in
+    let within : overruns (length (wrapped code)) (program_header (wrapped code) 0) ≡ false = grind
+    (arith, nat_tests, length-wrapped) in
     rw (count_is code) (only_if-false _ _ within)
 
 -- it lies in memory
@@ -91,7 +95,8 @@ entry_passes code ram takes =
     rw (entry_is code) (only_if-false _ _ good)
 
 -- no fault of any kind
-pub wrapped-well_formed : (code : List ℕ) (ram : Ram) → length code < 2 ^ 32 → TakesCode ram (length code) → IsWellFormed (wrapped code) ram
+pub wrapped-well_formed : (code : List ℕ) (ram : Ram) → length code < 2 ^ 32 → TakesCode ram (length code) →
+    IsWellFormed (wrapped code) ram
 unfolding first_fault
 wrapped-well_formed code ram fits takes =
     neither _ _ (header_passes code)
@@ -100,8 +105,10 @@ wrapped-well_formed code ram fits takes =
     (neither _ _ (overlaps_pass code) (neither _ _ (entry_passes code ram takes) refl))))
 
 -- its image is the code at its address
-pub image_of-wrapped : (code : List ℕ) (ram : Ram) → length code < 2 ^ 32 → image_of (wrapped code) ram ≡ image_of_code code ram
+pub image_of-wrapped : (code : List ℕ) (ram : Ram) → length code < 2 ^ 32 → image_of (wrapped code) ram ≡ image_of_code
+    code ram
 unfolding wrapped field program_header segments_below
 image_of-wrapped code ram fits =
-    let whole : take (program_header (wrapped code) 0).p_filesz code ≡ code = rw (describes code fits).file_bytes (take-length code) in
+    let whole : take (program_header (wrapped code) 0).p_filesz code ≡ code = rw (describes code fits).file_bytes
+    (take-length code) in
     ap (λ (bytes : List ℕ). image_of_code bytes ram) whole

@@ -9,7 +9,7 @@ ghost use Rattle.std.specs.Prelude.{IfOk, length, ◌≡◌, ◌≤◌};
 use ibx_base::NoMemory;
 use std::alloc::Global;
 
-/// `Elf32_Ehdr`: an executable for RISC-V that begins at 0x0010_0080, with one program header right after it.
+// `Elf32_Ehdr`: an executable for RISC-V that begins at 0x0010_0080, with one program header right after it.
 const FILE_HEADER: [u8; 52] = [
     0x7f, b'E', b'L', b'F', 1, 1, 1, 0, 0, 0, 0, 0, 0, 0, 0, 0, // e_ident
     2, 0, 243, 0, // e_type, e_machine
@@ -22,7 +22,7 @@ const FILE_HEADER: [u8; 52] = [
     0, 0, 0, 0, 0, 0, // e_shentsize, e_shnum, e_shstrndx
 ];
 
-/// `Elf32_Phdr` before its sizes: what stands from byte 84 on is loaded at 0x0010_0080.
+// `Elf32_Phdr` before its sizes: what stands from byte 84 on is loaded at 0x0010_0080.
 const SEGMENT_PLACE: [u8; 16] = [
     1, 0, 0, 0, // p_type
     84, 0, 0, 0, // p_offset
@@ -30,13 +30,13 @@ const SEGMENT_PLACE: [u8; 16] = [
     0x80, 0x00, 0x10, 0x00, // p_paddr
 ];
 
-/// `Elf32_Phdr` after its sizes: the segment may be read, written and executed.
+// `Elf32_Phdr` after its sizes: the segment may be read, written and executed.
 const SEGMENT_USE: [u8; 8] = [
     7, 0, 0, 0, // p_flags
     4, 0, 0, 0, // p_align
 ];
 
-/// Bytes of the file before the code.
+// Bytes of the file before the code.
 const HEADER_BYTES: usize = 84;
 
 /// The ELF32 file (System V gABI) whose one segment is the code, loaded at the byte address 0x0010_0080, where the

@@ -13,13 +13,15 @@ loop-i-preserved c =
     let file = c.args.file.now in
     elim c.if-is_load.branch [
       | then-is_load w ↦
-          let load : is_load (program_header file c.loop-i.i) ≡ true = rw (← c.read.ensures) (sym c.is_load.ensures ∙ w.if-is_load.true) in
+          let load : is_load (program_header file c.loop-i.i) ≡ true = rw (← c.read.ensures)
+          (sym c.is_load.ensures ∙ w.if-is_load.true) in
           record {
             count = w.count-is ∙ omega (arith, c.loop-i.invariant.count, count_more file c.loop-i.i load);
             few = omega (arith, w.count-is, c.loop-i.invariant.few);
           }
       | else-is_load w ↦
-          let load : is_load (program_header file c.loop-i.i) ≡ false = rw (← c.read.ensures) (sym c.is_load.ensures ∙ w.if-is_load.false) in
+          let load : is_load (program_header file c.loop-i.i) ≡ false = rw (← c.read.ensures)
+          (sym c.is_load.ensures ∙ w.if-is_load.false) in
           record {
             count = w.count-is ∙ c.loop-i.invariant.count ∙ ap length (sym (none_more file c.loop-i.i load));
             few = omega (arith, w.count-is, c.loop-i.invariant.few);

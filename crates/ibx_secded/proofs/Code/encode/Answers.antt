@@ -3,10 +3,12 @@ use Rattle.ibx_secded.proofs.Laws.{encoded, syndrome_of-encode, payload_of-encod
 use Rattle.ibx_secded.proofs.Code.encode.Goals as goal
 
 pub join-requires-clause-stored_fits : goal.join-requires-clause-stored_fits
-join-requires-clause-stored_fits g c = xor_lt g.row.R c.check.result c.constant.result c.check.ensures.fits c.constant.ensures.fits
+join-requires-clause-stored_fits g c = xor_lt g.row.R c.check.result c.constant.result c.check.ensures.fits
+    c.constant.ensures.fits
 
 value-is : goal.returns-clause-value
-value-is g c = encoded g.row.K g.row.R c.args.value c.check.result c.constant.result _ c.check.ensures.value c.constant.ensures.value c.join.ensures.value
+value-is g c = encoded g.row.K g.row.R c.args.value c.check.result c.constant.result _ c.check.ensures.value
+    c.constant.ensures.value c.join.ensures.value
 
 pub returns-clause-value : goal.returns-clause-value
 returns-clause-value g c = value-is g c
