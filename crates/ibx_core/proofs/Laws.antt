@@ -4,8 +4,8 @@ use Rattle.std.proofs.Common.{◌≡◌, ℕ, ◌+◌, ◌*◌, Bool, true, fals
 use Rattle.std.specs.Prelude.{not, ◌&&◌, ◌||◌, if◌then◌else◌, ◌%◌, ◌/◌, ◌==◌}
 use Rattle.ibx_icache.specs.WordPort.{is_bad_tag, is_bad_word, matches}
 use Rattle.ibx_core.specs.declared.state.State.{State}
-use Rattle.ibx_core.specs.Core.{IsSameUsed, alerts_of, core_next, core_out, cycle_of, cycle_seen, cycle_with, gives}
-use Rattle.ibx_core.specs.Core.{heard, is_bus, is_internal, is_minor, leaves, looks, out_by, out_with, port_of}
+use Rattle.ibx_core.specs.Core.{IsSameUsed, alerts_of, before_grants, core_next, core_out, cycle_of, cycle_seen, cycle_with}
+use Rattle.ibx_core.specs.Core.{gives, heard, is_bus, is_internal, is_minor, leaves, looks, out_by, out_with, port_of}
 use Rattle.ibx_core.specs.Core.{reads_in, reads_of, takes0, takes1}
 use Rattle.ibx_core.specs.Fields.{bit}
 use Rattle.ibx_core.specs.Sights.{sight_of, sight_with}
@@ -81,6 +81,11 @@ pub ungranted : (x : State) (i : InWires) (igrant dgrant : Bool)
     → core_out x (record i { igrant = igrant; dgrant = dgrant }) ≡ core_out x i
 unfolding core_out heard gives out_by port_of alerts_of cycle_of cycle_seen cycle_with sight_of sight_with
 ungranted x i igrant dgrant = refl
+
+-- a cycle is worked out before its grants
+pub cycle_ungranted : (x : State) (i : InWires) → cycle_of x (heard x (before_grants i)) ≡ cycle_of x (heard x i)
+unfolding heard cycle_of cycle_seen cycle_with sight_of sight_with
+cycle_ungranted x i = refl
 
 -- what is read is put out
 pub reading : (x : State) (i : InWires) → reads_in (core_out x i) ≡ reads_of x

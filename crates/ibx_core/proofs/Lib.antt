@@ -6,3 +6,4 @@ pub mod Laws
 pub mod Registers
 pub mod Codewords
 pub mod OneBit
+pub mod Unset

@@ -20,6 +20,7 @@ use Rattle.ibx_lsu.specs.declared.unit.Lsu.{Lsu}
 use Rattle.ibx_lsu.specs.Turns.{next_of as ls_next}
 use Rattle.ibx_id.specs.declared.stage.Turn.{Turn}
 use Rattle.ibx_id.specs.declared.stage.Turn.TheVariants.{Hold}
+use Rattle.ibx_core.specs.declared.begun.Begun.{Begun}
 use Rattle.ibx_core.specs.declared.cycle.Cycle.{Cycle}
 use Rattle.ibx_core.specs.declared.effect.Effect.{Effect}
 use Rattle.ibx_core.specs.declared.reads.Reads.{Reads}
@@ -129,6 +130,14 @@ leaves x i = next_by (cycle_of x i) x i
 -- CoreNext: the fields after a cycle
 unfoldable pub core_next : State → InWires → State
 core_next x i = leaves x (heard x i)
+
+-- the wires before anything is granted
+abbrev pub before_grants : InWires → InWires
+before_grants i = record i { igrant = false; dgrant = false }
+
+-- what was worked out of a cycle as it began is that cycle, whatever is granted
+abbrev pub IsBegun : State → InWires → Begun → Type 0
+IsBegun x i b = (b.cycle ≡ cycle_of x (heard x (before_grants i))) × IsCycle x b.cycle
 
 -- ---- the alerts by their causes
 

@@ -39,6 +39,10 @@ fetched_by true true true false sound2 pc first second d counted = record { id =
 fetched_by true true true true false pc first second d counted = record { id = enters 0 pc 0 2; taken = 2; dummies = counted }
 fetched_by true true true true true pc first second d counted = record { id = enters 0 pc (first + 2 ^ 16 * second) 0; taken = 2; dummies = counted }
 
+-- no entry of protection is in use, as at reset
+abbrev pub is_unset : Csrs → Bool
+is_unset c = c.pmpcfg0 == 0 && (c.pmpcfg1 == 0 && (c.pmpcfg2 == 0 && c.pmpcfg3 == 0))
+
 -- protection lets the parcel at this address be executed
 unfoldable pub may_execute : Csrs → ℕ → Bool
 may_execute c addr = allowed (cfg_bytes (values c)) (values c).pmpaddr (addr / 2 * 2) 2 Execute c.priv_

@@ -78,20 +78,22 @@ fn fetched(head: &Head, csrs: &Csrs, dummies: &Dummy, pc: u32) -> Entry
     ensures value { result ≡ fetched_of head.now csrs.now dummies.now pc }
     ensures fits { IsEntry result }
 {
+    if !head.first.ready {
+        return nothing(dummies);
+    }
     let counted = counted(dummies, enables_dummies(csrs));
-    let long = is_long(head.first.half as u32);
-    let sound = is_sound(&head.first, csrs, pc);
-    let sound2 = is_sound(&head.second, csrs, pc.wrapping_add(2));
     let first = head.first.half as u32;
-    match (head.first.ready, sound, long, head.second.ready, sound2) {
-        (false, _, _, _, _) | (true, true, true, false, _) => nothing(dummies),
-        (true, false, _, _, _) => taking(1, item(0, pc, 0, 1), &counted),
-        (true, true, false, _, _) => taking(1, item(0, pc, first, 0), &counted),
-        (true, true, true, true, false) => taking(2, item(0, pc, 0, 2), &counted),
-        (true, true, true, true, true) => {
-            let word = first + head.second.half as u32 * 0x1_0000;
-            taking(2, item(0, pc, word, 0), &counted)
-        }
+    if !is_sound(&head.first, csrs, pc) {
+        taking(1, item(0, pc, 0, 1), &counted)
+    } else if !is_long(first) {
+        taking(1, item(0, pc, first, 0), &counted)
+    } else if !head.second.ready {
+        nothing(dummies)
+    } else if !is_sound(&head.second, csrs, pc.wrapping_add(2)) {
+        taking(2, item(0, pc, 0, 2), &counted)
+    } else {
+        let word = first + head.second.half as u32 * 0x1_0000;
+        taking(2, item(0, pc, word, 0), &counted)
     }
 }
 
@@ -134,7 +136,7 @@ fn entering(irq: Option<u8>, due: bool, head: &Head, csrs: &Csrs, dummies: &Dumm
     }
 }
 
-// What the stage holds in the next cycle; `e` is what this cycle's event left.
+/// What the stage holds in the next cycle; `e` is what this cycle's event left.
 #[tactic(auto, unfolding(crate::specs::Entries::admits_by))]
 pub fn admit(turn: &Turn, head: &Head, e: &Effect, lines: u32) -> Entry
     requires dummies { e.now.dummies.dcount < 2 ^ 5 }

@@ -1,19 +1,17 @@
 ghost use Rattle.std.specs.Prelude.{◌≡◌, ◌≤◌, ◌<◌, ◌^◌, ◌==◌, IfSome, if◌then◌else◌};
-ghost use Rattle.ibx_icache.specs.WordPort.{IsFields, IsInput, answer_of, word_in, word_port_next};
+ghost use Rattle.ibx_icache.specs.WordPort.{IsInput, answer_of, word_in};
 ghost use Rattle.ibx_muldiv.specs.Unit.{left_of, tick_of};
-ghost use Rattle.ibx_prefetch.specs.Buffer.{prefetch_next};
-ghost use Rattle.ibx_prefetch.specs.Parcels.{IsWithin};
-ghost use Rattle.ibx_core.specs.Core.{IsCycle, core_next, cycle_of, cycle_seen, cycle_with, head_by, leaves, look_in, ls_by, md_next, next_by, port_of};
+ghost use Rattle.ibx_core.specs.Core.{IsCycle, before_grants, core_next, cycle_of, cycle_seen, cycle_with, head_by, heard, leaves, look_in, ls_by, md_next, next_by, port_of};
 ghost use Rattle.ibx_core.specs.Effects.{IsEffect};
 ghost use Rattle.ibx_core.specs.Fields.{Fits};
-ghost use Rattle.ibx_core.specs.Sights.{IsSight, irsp_of};
+ghost use Rattle.ibx_core.specs.Sights.{IsSight, irsp_of, row_of};
 
 use crate::admit::{Entry, admit};
 use crate::effect::Effect;
 use crate::sight::{Sight, data_answer};
 use crate::state::State;
 use crate::wires::In;
-use ibx_icache::{CacheIn, WordAns, WordPort};
+use ibx_icache::{CacheIn, WordAns};
 use ibx_id::Turn;
 use ibx_isa::control::ICACHE_ENABLE;
 use ibx_isa::{Access, Rsp};
@@ -47,7 +45,7 @@ pub fn instruction_answer(i: &In) -> Rsp
     }
 }
 
-// What the word port is handed.
+/// What the word port is handed.
 #[tactic(auto, unfolding(crate::specs::Core::port_of))]
 pub fn cache_in(x: &State, i: &In, request: Option<u32>, fence: bool, granted: bool) -> CacheIn
     ensures value { word_in result ≡ port_of x.now i.now request fence }
@@ -98,6 +96,7 @@ fn admitted(g: &Sight, e: &Effect, ans: &WordAns, x: &State, i: &In) -> Cycle
     requires sight { IsSight x.now g.now }
     requires effect { IsEffect x.now e.now }
     ensures value { result ≡ cycle_with g.now e.now ans.now x.now i.now }
+    ensures sight { result.sight ≡ g.now }
     ensures fits { IsCycle x.now result }
 {
     let head = head(e.redirect, ans, &x.fetch);
@@ -115,17 +114,19 @@ fn done(g: &Sight, x: &State, i: &In) -> Cycle
     requires fields { Fits x.now }
     requires sight { IsSight x.now g.now }
     ensures value { result ≡ cycle_seen g.now x.now i.now }
+    ensures sight { result.sight ≡ g.now }
     ensures fits { IsCycle x.now result }
 {
     admitted(g, &Effect::of(x, g, i.lines), &answer(x, i), x, i)
 }
 
 impl Cycle {
-    // What a cycle comes to.
+    /// What a cycle comes to.
     #[tactic(auto, unfolding(crate::specs::Core::cycle_of))]
     pub fn of(x: &State, i: &In) -> Cycle
         requires { Fits x.now }
         ensures value { result ≡ cycle_of x.now i.now }
+        ensures row { result.sight.row ≡ row_of x.now.id }
         ensures fits { IsCycle x.now result }
     {
         done(&Sight::of(x, i), x, i)
@@ -169,52 +170,48 @@ fn next_access(c: &Sight, ls: &Lsu, rsp: &Rsp, granted: bool) -> Lsu
     after
 }
 
-fn next_fetch(fetch: &Prefetch, c: &Cycle) -> Prefetch
-    ensures value { result ≡ prefetch_next c.now.ans c.now.effect.redirect c.now.entry.taken fetch.now }
-    ensures fits { IsWithin fetch.now → IsWithin result }
-{
-    let mut after = *fetch;
-    after.advance(&c.ans, c.effect.redirect, c.entry.taken);
-    after
-}
-
-fn next_words(x: &State, c: &Cycle, i: &In) -> WordPort
-    ensures value { result ≡ word_port_next x.now.words (port_of x.now i.now c.now.request c.now.effect.fence) i.now.igrant }
-    ensures fits { IsFields x.now.words → IsFields result }
-{
-    let mut after = x.words;
-    after.advance(&cache_in(x, i, c.request, c.effect.fence, i.igrant));
-    after
-}
-
 impl State {
-    // The fields after a cycle.
+    // Moves the fields by what a cycle comes to.
     #[tactic(auto, unfolding(crate::specs::Core::next_by))]
-    fn after(&self, c: &Cycle, i: &In) -> State
-        requires fields { Fits self.now }
-        requires cycle { IsCycle self.now c.now }
-        ensures value { result ≡ next_by c.now self.now i.now }
-        ensures fits { Fits result }
+    fn move_by(&mut self, c: &Cycle, i: &In)
+        requires fields { Fits self.old }
+        requires cycle { IsCycle self.old c.now }
+        ensures value { self.new ≡ next_by c.now self.old i.now }
+        ensures fits { Fits self.new }
     {
-        State {
-            fetch: next_fetch(&self.fetch, c),
-            words: next_words(self, c, i),
-            id: c.entry.id,
-            md: next_unit(&c.sight.turn, &c.sight.md),
-            ls: next_access(&c.sight, &self.ls, &data_answer(i), i.dgrant),
-            dummies: c.entry.dummies,
-            next_pc: c.effect.next_pc,
-            csrs: c.effect.csrs,
-        }
+        let words = cache_in(self, i, c.request, c.effect.fence, i.igrant);
+        self.fetch.advance(&c.ans, c.effect.redirect, c.entry.taken);
+        self.words.advance(&words);
+        self.id = c.entry.id;
+        self.md = next_unit(&c.sight.turn, &c.sight.md);
+        self.ls = next_access(&c.sight, &self.ls, &data_answer(i), i.dgrant);
+        self.dummies = c.entry.dummies;
+        self.next_pc = c.effect.next_pc;
+        self.csrs = c.effect.csrs;
     }
 
+    // Moves the fields by the cycle with these wires.
     #[tactic(auto, unfolding(crate::specs::Core::leaves))]
-    fn next(&self, i: &In) -> State
-        requires { Fits self.now }
-        ensures value { result ≡ leaves self.now i.now }
-        ensures fits { Fits result }
+    fn move_on(&mut self, i: &In)
+        requires { Fits self.old }
+        ensures value { self.new ≡ leaves self.old i.now }
+        ensures fits { Fits self.new }
     {
-        self.after(&Cycle::of(self, i), i)
+        let cycle = Cycle::of(self, i);
+        self.move_by(&cycle, i);
+    }
+
+    /// Ends a cycle that was worked out as it began.
+    #[tactic(auto, unfolding(crate::specs::Core::core_next, crate::specs::Core::leaves), using(crate::proofs::Laws::cycle_ungranted))]
+    pub fn finish(&mut self, c: &Cycle, i: &In)
+        requires fields { Fits self.old }
+        requires same { c.now ≡ cycle_of self.old (heard self.old (before_grants i.now)) }
+        requires cycle { IsCycle self.old c.now }
+        ensures value { self.new ≡ core_next self.old i.now }
+        ensures fits { Fits self.new }
+    {
+        let heard = self.heard(i);
+        self.move_by(c, &heard);
     }
 
     /// Ends a cycle.
@@ -224,6 +221,7 @@ impl State {
         ensures value { self.new ≡ core_next self.old i.now }
         ensures fits { Fits self.new }
     {
-        *self = self.next(&self.heard(i));
+        let heard = self.heard(i);
+        self.move_on(&heard);
     }
 }

@@ -205,7 +205,7 @@ fn interrupt(x: &State, number: u8) -> Effect
 }
 
 impl Effect {
-    // What the turn leaves.
+    /// What the turn leaves.
     #[tactic(auto, unfolding(crate::specs::Effects::effect_by))]
     pub fn of(x: &State, g: &Sight, lines: u32) -> Effect
         requires { IsSight x.now g.now }

@@ -15,7 +15,7 @@ impl State {
         Code::<22, 6>::payload(tag as u64) == line
     }
 
-    // The wires with 0 in place of each unused word.
+    /// The wires with 0 in place of each unused word.
     #[tactic(auto, unfolding(crate::specs::Core::heard))]
     pub fn heard(&self, i: &In) -> In
         ensures { result ≡ heard_of self.now i.now }

@@ -3,6 +3,7 @@
 #![tactic(auto)]
 
 mod admit;
+mod begun;
 mod cycle;
 mod effect;
 mod fields;
@@ -17,6 +18,7 @@ mod state;
 mod step;
 mod wires;
 
+pub use begun::Begun;
 pub use machine::Core;
 pub use reads::Reads;
 pub use wires::{In, Out};

@@ -1,11 +1,12 @@
 ghost use Rattle.std.specs.Prelude.{◌≡◌, ◌^◌, ◌<◌, ◌%◌, ◌/◌, ◌==◌, Bool, IfSome, slice_index, slice_set};
 ghost use Rattle.ibx_isa.specs.Events.{IsPrintable};
-ghost use Rattle.ibx_core.specs.Core.{IsSameUsed, core_next, core_out, is_bus, is_internal, is_minor, reads_in, reads_of};
+ghost use Rattle.ibx_core.specs.Core.{IsBegun, IsSameUsed, core_next, core_out, is_bus, is_internal, is_minor, reads_in, reads_of};
 ghost use Rattle.ibx_core.specs.Fields.{fields, reset_of};
 ghost use Rattle.ibx_core.specs.Wires.{InWires};
 ghost use Rattle.ibx_plan.specs.Names.{fields as field_table, width_in};
 ghost use Rattle.ibx_core.specs.declared.state.State.{State};
 
+use crate::begun::Begun;
 use crate::reads::Reads;
 use crate::state::State;
 use crate::wires::{In, Out};
@@ -104,5 +105,30 @@ impl Core {
         ensures unused { (other : InWires) → IsSameUsed self.old other i.now → core_next self.old other ≡ self.new }
     {
         self.state.advance(i);
+    }
+
+    /// What the core puts out in a cycle with the wires `i`, as `out` gives it, and what it worked out on the way.
+    #[tactic(auto, using(crate::proofs::Laws::ungranted))]
+    pub fn begin(&self, i: &In) -> (Out, Begun)
+        ensures value { result.0 ≡ core_out self.now i.now }
+        ensures begun { IsBegun self.now i.now result.1 }
+        // The output doesn't depend on the grants.
+        ensures grants { (igrant dgrant : Bool) → core_out self.now (record i.now { igrant = igrant; dgrant = dgrant }) ≡ result.0 }
+
+        // Both addresses on the bus are those of words, and what is done has a printed line.
+        ensures fetched { result.0.iaddr % 4 ≡ 0 }
+        ensures accessed { result.0.daddr % 4 ≡ 0 }
+        ensures printable { IfSome result.0.event IsPrintable }
+    {
+        let (out, cycle) = self.state.begin(i);
+        (out, Begun { cycle })
+    }
+
+    /// Ends a cycle with the wires `i`, as `advance` does, by what was worked out as it began.
+    pub fn finish(&mut self, begun: Begun, i: &In)
+        requires { IsBegun self.old i.now begun }
+        ensures { self.new ≡ core_next self.old i.now }
+    {
+        self.state.finish(&begun.cycle, i);
     }
 }

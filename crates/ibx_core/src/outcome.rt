@@ -190,7 +190,7 @@ fn left(csrs: &Csrs) -> Csrs
 }
 
 impl Outcome {
-    // The outcome of the row.
+    /// The outcome of the row.
     #[tactic(auto, unfolding(crate::specs::Effects::outcome_by, crate::specs::Sights::access_by))]
     pub fn of(x: &State, g: &Sight, lines: u32) -> Outcome
         requires { IsSight x.now g.now }

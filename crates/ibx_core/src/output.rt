@@ -2,7 +2,7 @@ ghost use Rattle.std.specs.Prelude.{◌≡◌, ◌≢◌, ◌<◌, ◌^◌, ◌%
 ghost use Rattle.ibx_isa.specs.Events.{IsPrintable};
 ghost use Rattle.ibx_icache.specs.WordPort.{AreCodewords, is_bad_word, out_of};
 ghost use Rattle.ibx_icache.specs.Rules.{IsOutput};
-ghost use Rattle.ibx_core.specs.Core.{IsCycle, alerts_of, core_out, gives, is_bus, is_flipped as is_flipped_of, is_internal, is_minor, is_write, out_with, port_of, reads_of, tag_ways, tag_word, write_register, write_word};
+ghost use Rattle.ibx_core.specs.Core.{IsCycle, alerts_of, before_grants, core_out, cycle_of, gives, heard, is_bus, is_flipped as is_flipped_of, is_internal, is_minor, is_write, out_with, port_of, reads_of, tag_ways, tag_word, write_register, write_word};
 ghost use Rattle.ibx_core.specs.Fields.{Fits};
 
 use crate::cycle::{Cycle, cache_in, instruction_answer};
@@ -103,22 +103,39 @@ impl State {
             .out(&cache_in(self, i, c.request, c.effect.fence, false))
     }
 
+    // What is put out, and the cycle that it comes from.
     #[tactic(auto, unfolding(crate::specs::Core::gives, crate::specs::Core::out_by))]
-    fn driven(&self, i: &In) -> Out
+    fn driven(&self, i: &In) -> (Out, Cycle)
         requires { Fits self.now }
-        ensures value { result ≡ gives self.now i.now }
-        ensures fetched { result.iaddr % 4 ≡ 0 }
-        ensures accessed { result.daddr % 4 ≡ 0 }
-        ensures printable { IfSome result.event IsPrintable }
+        ensures value { result.0 ≡ gives self.now i.now }
+        ensures cycle { result.1 ≡ cycle_of self.now i.now }
+        ensures fits { IsCycle self.now result.1 }
+        ensures fetched { result.0.iaddr % 4 ≡ 0 }
+        ensures accessed { result.0.daddr % 4 ≡ 0 }
+        ensures printable { IfSome result.0.event IsPrintable }
     {
         let c = Cycle::of(self, i);
         let port = self.port_out(i, &c);
         let alerts = self.alerts(i, port.alerts.0 % 2 == 1);
-        wired(&port, alerts, &self.reads(), &c, self)
+        let reads = self.reads_by(c.sight.row);
+        (wired(&port, alerts, &reads, &c, self), c)
+    }
+
+    /// What the core puts out in a cycle, and what was worked out on the way.
+    #[tactic(auto, unfolding(crate::specs::Core::core_out), using(crate::proofs::Laws::cycle_ungranted))]
+    pub fn begin(&self, i: &In) -> (Out, Cycle)
+        requires { Fits self.now }
+        ensures value { result.0 ≡ core_out self.now i.now }
+        ensures same { result.1 ≡ cycle_of self.now (heard self.now (before_grants i.now)) }
+        ensures cycle { IsCycle self.now result.1 }
+        ensures fetched { result.0.iaddr % 4 ≡ 0 }
+        ensures accessed { result.0.daddr % 4 ≡ 0 }
+        ensures printable { IfSome result.0.event IsPrintable }
+    {
+        self.driven(&self.heard(i))
     }
 
     /// What the core puts out in a cycle.
-    #[tactic(auto, unfolding(crate::specs::Core::core_out))]
     pub fn out(&self, i: &In) -> Out
         requires { Fits self.now }
         ensures value { result ≡ core_out self.now i.now }
@@ -126,7 +143,7 @@ impl State {
         ensures accessed { result.daddr % 4 ≡ 0 }
         ensures printable { IfSome result.event IsPrintable }
     {
-        self.driven(&self.heard(i))
+        self.begin(i).0
     }
 }
 

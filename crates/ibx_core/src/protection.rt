@@ -1,7 +1,8 @@
-ghost use Rattle.std.specs.Prelude.{◌≡◌, ◌≤◌};
+ghost use Rattle.std.specs.Prelude.{◌≡◌, ◌≤◌, ◌+◌, ◌%◌};
 ghost use Rattle.ibx_csr.specs.Fields.{values};
 ghost use Rattle.ibx_csr.specs.Values.{cfg_bytes};
-ghost use Rattle.ibx_core.specs.Entries.{may_execute as may_execute_of};
+ghost use Rattle.ibx_pmp.specs.Ranges.{allowed};
+ghost use Rattle.ibx_core.specs.Entries.{is_unset as is_unset_of, may_execute as may_execute_of};
 ghost use Rattle.ibx_core.specs.Sights.{is_denied as is_denied_of};
 
 use ibx_csr::Csrs;
@@ -18,7 +19,27 @@ fn entries(csrs: &Csrs) -> PmpRegs
     PmpRegs { cfg, addr }
 }
 
-// Whether protection refuses a portion of an access (Privileged ISA 1.12, 3.7.1 and 3.1.6.3).
+// No entry is in use, as at reset: then M may do all and U nothing.
+fn is_unset(csrs: &Csrs) -> bool
+    ensures { result ≡ is_unset_of csrs.now }
+{
+    csrs.pmpcfg0 == 0 && csrs.pmpcfg1 == 0 && csrs.pmpcfg2 == 0 && csrs.pmpcfg3 == 0
+}
+
+// What the entries say, which aren't searched where none is in use.
+#[tactic(auto, using(crate::proofs::Unset::unset_allows))]
+fn allows(csrs: &Csrs, addr: u32, size: u8, kind: AccessKind, machine: bool) -> bool
+    requires { addr % 4 + size ≤ 4 }
+    ensures { result ≡ allowed (cfg_bytes (values csrs.now)) (values csrs.now).pmpaddr addr size kind machine }
+{
+    if is_unset(csrs) {
+        machine
+    } else {
+        allow(&entries(csrs), addr, size, kind, machine)
+    }
+}
+
+/// Whether protection refuses a portion of an access (Privileged ISA 1.12, 3.7.1 and 3.1.6.3).
 #[tactic(auto, unfolding(crate::specs::Sights::is_denied))]
 pub fn is_denied(csrs: &Csrs, want: &Access, second: bool) -> bool
     requires { want.now.size ≤ 4 }
@@ -31,19 +52,13 @@ pub fn is_denied(csrs: &Csrs, want: &Access, second: bool) -> bool
     } else {
         AccessKind::Read
     };
-    !allow(&entries(csrs), addr, size, kind, csrs.access_machine())
+    !allows(csrs, addr, size, kind, csrs.access_machine())
 }
 
-// Whether protection lets the parcel at a byte address be executed; bit 0 of the address isn't looked at.
+/// Whether protection lets the parcel at a byte address be executed; bit 0 of the address isn't looked at.
 #[tactic(auto, unfolding(crate::specs::Entries::may_execute))]
 pub fn may_execute(csrs: &Csrs, addr: u32) -> bool
     ensures { result ≡ may_execute_of csrs.now addr }
 {
-    allow(
-        &entries(csrs),
-        addr / 2 * 2,
-        2,
-        AccessKind::Execute,
-        csrs.priv_,
-    )
+    allows(csrs, addr / 2 * 2, 2, AccessKind::Execute, csrs.priv_)
 }

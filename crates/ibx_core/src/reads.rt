@@ -1,8 +1,9 @@
-ghost use Rattle.std.specs.Prelude.{◌≡◌, ◌<◌, IfSome};
+ghost use Rattle.std.specs.Prelude.{◌≡◌, ◌<◌, IfSome, nat_lt};
 ghost use Rattle.ibx_isa.specs.Lengths.{IsWordOrHalf};
+ghost use Rattle.ibx_isa.specs.Sources.{source1, source2};
 ghost use Rattle.ibx_isa.specs.WellFormed.{IsWellFormed};
 ghost use Rattle.ibx_core.specs.Core.{reads_of};
-ghost use Rattle.ibx_core.specs.Sights.{ra_of, rb_of, row_of, stage_word as stage_word_of};
+ghost use Rattle.ibx_core.specs.Sights.{ra_of, rb_of, read_by, row_of, stage_word as stage_word_of};
 
 use crate::state::State;
 use ibx_decoder::instruction;
@@ -19,7 +20,7 @@ pub struct Reads {
     pub line: u32,
 }
 
-// The stage's word as an instruction: a halfword is the low half alone.
+/// The stage's word as an instruction: a halfword is the low half alone.
 pub fn stage_word(st: &IdState) -> u32
     ensures value { result ≡ stage_word_of st.now }
     ensures fits { IsWordOrHalf result }
@@ -31,7 +32,7 @@ pub fn stage_word(st: &IdState) -> u32
     }
 }
 
-// The row of a real item or a dummy that was fetched soundly.
+/// The row of a real item or a dummy that was fetched soundly.
 #[tactic(auto, unfolding(crate::specs::Sights::row_of))]
 pub fn row(st: &IdState) -> Option<Insn>
     ensures value { result ≡ row_of st.now }
@@ -44,28 +45,39 @@ pub fn row(st: &IdState) -> Option<Insn>
     }
 }
 
-// The registers that are read, until a trap is found.
-#[tactic(auto, unfolding(crate::specs::Sights::ra_of, crate::specs::Sights::rb_of))]
-fn registers(st: &IdState) -> (u8, u8)
-    ensures first { result.0 ≡ ra_of st.now }
-    ensures second { result.1 ≡ rb_of st.now }
+// The registers that a row reads, until a trap is found.
+fn registers(row: Option<Insn>, phase: u8) -> (u8, u8)
+    requires { IfSome row IsWellFormed }
+    ensures first { result.0 ≡ read_by source1 (nat_lt phase 4) row }
+    ensures second { result.1 ≡ read_by source2 (nat_lt phase 4) row }
     ensures first_fits { result.0 < 32 }
     ensures second_fits { result.1 < 32 }
 {
-    match row(st) {
-        Some(insn) if st.phase < 4 => sources(&insn),
+    match row {
+        Some(insn) if phase < 4 => sources(&insn),
         _ => (0, 0),
     }
 }
 
 impl State {
-    #[tactic(auto, unfolding(crate::specs::Core::reads_of))]
     pub fn reads(&self) -> Reads
         ensures value { result ≡ reads_of self.now }
         ensures first_fits { result.ra < 32 }
         ensures second_fits { result.rb < 32 }
     {
-        let (ra, rb) = registers(&self.id);
+        self.reads_by(row(&self.id))
+    }
+
+    /// What is read, by the row of the stage's word.
+    #[tactic(auto, unfolding(crate::specs::Core::reads_of, crate::specs::Sights::ra_of, crate::specs::Sights::rb_of))]
+    pub fn reads_by(&self, row: Option<Insn>) -> Reads
+        requires row { row ≡ row_of self.now.id }
+        requires sound { IfSome row IsWellFormed }
+        ensures value { result ≡ reads_of self.now }
+        ensures first_fits { result.ra < 32 }
+        ensures second_fits { result.rb < 32 }
+    {
+        let (ra, rb) = registers(row, self.id.phase);
         Reads {
             ra,
             rb,

@@ -6,7 +6,7 @@ ghost use Rattle.ibx_csr.specs.Values.{csr_can_write};
 ghost use Rattle.ibx_csr.specs.Fields.{values};
 ghost use Rattle.ibx_muldiv.specs.Unit.{start_of};
 ghost use Rattle.ibx_secded.specs.Code.{payload_of};
-ghost use Rattle.ibx_core.specs.Sights.{IsSight, access_by, access_if, cause_if, cause_of, cost_by, csr_cause as csr_cause_of, drsp_of, fixed_in, is_active, is_fixed as is_fixed_of, is_real as is_real_of, md_by, mul_of, refused_by, row_cause as row_cause_of, sight_of, sight_with, turn_by};
+ghost use Rattle.ibx_core.specs.Sights.{IsSight, access_by, access_if, cause_if, cause_of, cost_by, csr_cause as csr_cause_of, drsp_of, fixed_in, is_active, is_fixed as is_fixed_of, is_real as is_real_of, md_by, mul_of, refused_by, row_cause as row_cause_of, row_of, sight_of, sight_with, turn_by};
 
 use crate::protection::is_denied;
 use crate::reads::row;
@@ -240,11 +240,12 @@ fn cause_in(real: bool, x: &State, row: Option<Insn>) -> Option<u8>
     }
 }
 
-fn active(x: &State, access: Option<Access>) -> bool
-    requires { IfSome access (λ w. w.size ≤ 4) }
+// An access that nothing refuses, until a portion failed.
+fn active(x: &State, access: Option<Access>, refused: u8) -> bool
+    requires { refused ≡ refused_by x.now.csrs access }
     ensures { result ≡ is_active x.now access }
 {
-    access.is_some() && refused(&x.csrs, access) == 0 && x.id.phase < 2
+    access.is_some() && refused == 0 && x.id.phase < 2
 }
 
 pub fn data_answer(i: &In) -> Rsp
@@ -273,12 +274,13 @@ fn seen(
     requires size { IfSome access (λ w. w.size ≤ 4) }
     requires stores { IsStore access → IsStore (access_by row a b) }
     ensures value { result ≡ sight_with row a b access cause x.now i.now }
+    ensures row { result.row ≡ row }
     ensures fits { IsSight x.now result }
 {
     let fixed = x.id.kind == 1 || is_fixed(&x.csrs);
     let mul = multiplier(i.mul);
     let refused = refused(&x.csrs, access);
-    let active = active(x, access);
+    let active = active(x, access, refused);
     let ls = ls_turn(active, access, &x.ls, &data_answer(i));
     let given = IdIn {
         insn: row,
@@ -308,6 +310,7 @@ impl Sight {
     #[tactic(auto, unfolding(crate::specs::Sights::sight_of))]
     pub fn of(x: &State, i: &In) -> Sight
         ensures value { result ≡ sight_of x.now i.now }
+        ensures row { result.row ≡ row_of x.now.id }
         ensures fits { IsSight x.now result }
     {
         let row = row(&x.id);

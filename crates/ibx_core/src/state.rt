@@ -23,7 +23,7 @@ pub struct State {
     pub csrs: Csrs,
 }
 
-// The stage without an item.
+/// The stage without an item.
 pub const EMPTY_STAGE: IdState = IdState {
     valid: false,
     kind: 0,

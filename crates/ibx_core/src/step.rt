@@ -1,9 +1,10 @@
-ghost use Rattle.ibx_core.specs.Core.{core_next, core_out};
+ghost use Rattle.ibx_core.specs.Core.{IsBegun, core_next, core_out};
 ghost use Rattle.ibx_core.specs.Wires.{agree};
 
+use crate::begun::Begun;
 use crate::machine::Core;
 use crate::wires::{In, Out};
-use ibx_lockstep::CoreStep;
+use ibx_lockstep::{CoreCycle, CoreStep};
 
 impl CoreStep for Core {
     type In = In;
@@ -26,5 +27,19 @@ impl CoreStep for Core {
 
     fn same(a: &Out, b: &Out) -> bool {
         a.same(b)
+    }
+}
+
+impl CoreCycle for Core {
+    type Begun = Begun;
+
+    ghost keeps = { IsBegun };
+
+    fn begin(&self, i: &In) -> (Out, Begun) {
+        Core::begin(self, i)
+    }
+
+    fn finish(&mut self, begun: Begun, i: &In) {
+        Core::finish(self, begun, i);
     }
 }

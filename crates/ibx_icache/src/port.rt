@@ -2,7 +2,7 @@ ghost use Rattle.std.specs.Prelude.{◌≡◌, ◌≢◌, ◌+◌, ◌*◌, ◌/
 ghost use Rattle.ibx_isa.specs.declared.bus.Rsp.{Rsp};
 ghost use Rattle.ibx_secded.specs.Code.{payload_of, syndrome_of};
 ghost use Rattle.ibx_icache.specs.Doing.{doing_of, is_rest};
-ghost use Rattle.ibx_icache.specs.WordPort.{AreCodewords, AreSound, IsFields, IsInput, IsLook, after_answer, after_request, alerts_of, answer_of, begun_by, entry_by, filling_of, gone_by, half_of, is_bad_word, is_cached, is_wrong, look_of, looked, marked, out_of, reset_of, rsp_entry, stores_of, walked, wires_of, word_in, word_port_next};
+ghost use Rattle.ibx_icache.specs.WordPort.{AreCodewords, AreSound, IsFields, IsInput, IsLook, after_answer, after_request, alerts_of, answer_of, begun_by, entry_by, filling_of, gone_by, half_of, is_bad_word, is_cached, is_hit, is_wrong, look_of, looked, marked, out_of, reset_of, rsp_entry, stores_of, victim_of, walked, wires_of, word_in, word_port_next};
 ghost use Rattle.ibx_icache.specs.Rules.{Empties, Emptying, IsBad, IsFetch, IsGiven, IsHit, IsMiss, IsOutput, IsStored, IsVictim, KeepsFences, StoresLine, WalksOn, half_at, hit_answer, word_in_way};
 
 use crate::doing::Doing;
@@ -267,15 +267,38 @@ impl WordPort {
         requires { IsInput i.now }
         ensures { result ≡ after_answer self.now (word_in i.now) }
     {
-        let look = Look::of(i);
-        let came = Comes {
-            answer: i.rsp.valid,
-            hit: look.is_hit(self.c_addr),
-            stores: self.stores(i),
-            way: look.victim(self.c_addr, self.c_alt),
-            entry: rsp_entry(&i.rsp),
-        };
-        marked(i.fence, gone(Doing::of(self.c_state), &came, self))
+        marked(i.fence, self.gone(i))
+    }
+
+    // What comes to the outstanding request. The words that are read, and the answer's, are looked at only where they count.
+    #[tactic(auto, unfolding(crate::specs::WordPort::gone_by))]
+    fn gone(&self, i: &CacheIn) -> WordPort
+        requires { IsInput i.now }
+        ensures { result ≡ gone_by (doing_of self.now.c_state) i.now.rsp.valid (is_hit (look_of i.now.tags i.now.lanes) self.now.c_addr) (stores_of self.now (word_in i.now)) (victim_of (look_of i.now.tags i.now.lanes) self.now.c_addr self.now.c_alt) (rsp_entry i.now.rsp) self.now }
+    {
+        match Doing::of(self.c_state) {
+            Doing::Looks if Look::of(i).is_hit(self.c_addr) => in_state(0, self),
+            Doing::Looks => WordPort {
+                c_way: Look::of(i).victim(self.c_addr, self.c_alt),
+                ..in_state(2, self)
+            },
+            Doing::AwaitsFirst if i.rsp.valid => WordPort {
+                c_word0: rsp_entry(&i.rsp),
+                ..in_state(4, self)
+            },
+            Doing::AwaitsSecond if i.rsp.valid => WordPort {
+                c_word1: rsp_entry(&i.rsp),
+                c_alt: if self.stores(i) {
+                    !self.c_way
+                } else {
+                    self.c_alt
+                },
+                ..in_state(6, self)
+            },
+            Doing::AwaitsBare if i.rsp.valid => in_state(0, self),
+            Doing::Rests | Doing::Answers => in_state(0, self),
+            _ => *self,
+        }
     }
 
     // The port after this cycle's request too.
@@ -290,41 +313,6 @@ impl WordPort {
             i.request,
             &port,
         )
-    }
-}
-
-// What comes to the outstanding request in a cycle.
-#[derive(Clone, Copy)]
-struct Comes {
-    answer: bool,
-    hit: bool,
-    stores: bool,
-    way: bool,
-    entry: u64,
-}
-
-#[tactic(auto, unfolding(crate::specs::WordPort::gone_by))]
-fn gone(doing: Doing, came: &Comes, port: &WordPort) -> WordPort
-    ensures { result ≡ gone_by doing came.now.answer came.now.hit came.now.stores came.now.way came.now.entry port.now }
-{
-    match doing {
-        Doing::Looks if came.hit => in_state(0, port),
-        Doing::Looks => WordPort {
-            c_way: came.way,
-            ..in_state(2, port)
-        },
-        Doing::AwaitsFirst if came.answer => WordPort {
-            c_word0: came.entry,
-            ..in_state(4, port)
-        },
-        Doing::AwaitsSecond if came.answer => WordPort {
-            c_word1: came.entry,
-            c_alt: if came.stores { !port.c_way } else { port.c_alt },
-            ..in_state(6, port)
-        },
-        Doing::AwaitsBare if came.answer => in_state(0, port),
-        Doing::Rests | Doing::Answers => in_state(0, port),
-        _ => *port,
     }
 }
 

@@ -2,6 +2,7 @@
 //! shadow's output isn't the one that main gave then.
 #![tactic(auto)]
 
+mod core_cycle;
 mod core_step;
 mod pair;
 mod ring;
@@ -9,6 +10,7 @@ mod slots;
 #[cfg(test)]
 mod tests;
 
+pub use core_cycle::CoreCycle;
 pub use core_step::CoreStep;
 pub use pair::Pair;
 pub use ring::Ring;

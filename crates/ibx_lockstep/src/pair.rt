@@ -1,11 +1,12 @@
-ghost use Rattle.std.specs.Prelude.{◌≡◌, ◌<◌, nat_le, if◌then◌else◌};
+ghost use Rattle.std.specs.Prelude.{◌≡◌, ◌<◌, ◌+◌, min, nat_le, if◌then◌else◌};
 ghost use Rattle.std.specs.Borrow.{sem};
 ghost use Rattle.ibx_lockstep.specs.Lockstep.{is_told_after, KeepsMain, Notices, stepped_after, StaysQuiet, TellsLater};
 ghost use Rattle.ibx_lockstep.specs.Paired.{delayed_in, is_told, lockstep_of, stepped, with_delayed};
-ghost use Rattle.ibx_lockstep.specs.Rings.{back_of};
+ghost use Rattle.ibx_lockstep.specs.Rings.{back_of, pushed};
 ghost use Rattle.ibx_lockstep.specs.Seen.{seen};
 ghost use Rattle.ibx_lockstep.specs.Lending.{LendsMain, LendsShadow};
 
+use crate::core_cycle::CoreCycle;
 use crate::core_step::CoreStep;
 use crate::ring::Ring;
 use crate::slots::Slots;
@@ -124,6 +125,14 @@ impl<C: CoreStep> Pair<C> {
         let told = self.told();
         self.follow();
         self.main.advance(i);
+        self.delay_on(i, o);
+        told
+    }
+
+    // Puts main's input and output in as the newer pair, and counts the cycle.
+    fn delay_on(&mut self, i: &C::In, o: &C::Out)
+        ensures { self.new ≡ record self.old { inputs = pushed self.old.inputs i.now; outputs = pushed self.old.outputs o.now; age = min (self.old.age + 1) 2 } }
+    {
         self.inputs.slots.push(DEPTH, *i);
         self.outputs.slots.push(DEPTH, *o);
         self.age = if self.age >= DELAY {
@@ -131,7 +140,6 @@ impl<C: CoreStep> Pair<C> {
         } else {
             self.age + 1
         };
-        told
     }
 
     // Compares the shadow's output for the older input with the older output, once the shadow moves.
@@ -152,5 +160,41 @@ impl<C: CoreStep> Pair<C> {
         if self.age >= DELAY {
             self.shadow.advance(&input);
         }
+    }
+}
+
+impl<C: CoreCycle> Pair<C> {
+    /// Ends a cycle as `step` does, by what main worked out of it as it began with the input `i`. The shadow works its
+    /// cycle out once too.
+    #[tactic(auto, unfolding(crate::specs::Paired::is_told, crate::specs::Paired::stepped), using(crate::proofs::Pairs::newer_pushed, crate::proofs::Pairs::older_pushed))]
+    pub fn step_begun(&mut self, begun: C::Begun, i: &C::In, o: &C::Out) -> bool
+        requires output { o.now ≡ C.gives (seen self.old).main i.now }
+        requires begun { C.keeps (seen self.old).main i.now begun }
+        ensures told { result ≡ is_told C.gives C.agree (seen self.old) }
+        ensures moved { seen self.new ≡ stepped C.leaves (seen self.old) i.now o.now }
+        // the same by the words of the laws
+        ensures told_later { result ≡ is_told_after 2 C.gives C.agree (lockstep_of (seen self.old)) }
+        ensures moved_later { lockstep_of (seen self.new) ≡ stepped_after 2 C.leaves (lockstep_of (seen self.old)) i.now o.now }
+    {
+        let told = self.follow_once();
+        self.main.finish(begun, i);
+        self.delay_on(i, o);
+        told
+    }
+
+    // Moves the shadow by the older input, where two cycles have gone by, and compares its output on the way.
+    #[tactic(auto, unfolding(crate::specs::Paired::is_told))]
+    fn follow_once(&mut self) -> bool
+        ensures told { result ≡ is_told C.gives C.agree (seen self.old) }
+        ensures moved { self.new ≡ record self.old { shadow = (if nat_le 2 self.old.age then C.leaves self.old.shadow (back_of self.old.inputs 2) else self.old.shadow) } }
+    {
+        if self.age < DELAY {
+            return false;
+        }
+        let input = self.inputs.slots.back(DEPTH, DELAY);
+        let wanted = self.outputs.slots.back(DEPTH, DELAY);
+        let (own, begun) = self.shadow.begin(&input);
+        self.shadow.finish(begun, &input);
+        !C::same(&own, &wanted)
     }
 }

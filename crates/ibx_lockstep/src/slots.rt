@@ -1,8 +1,8 @@
 ghost use Rattle.std.specs.Prelude.{◌≡◌, ◌≢◌, ◌-◌, ◌≤◌, ◌<◌, ℕ};
 ghost use Rattle.ibx_lockstep.specs.Rings.{after_push, filled, put, slot, value_back, with_value_back};
 
-// Four slots and a place: the values of a ring of any depth from 1 to 4, which each call is told. Every value of the
-// fields is a state.
+/// Four slots and a place: the values of a ring of any depth from 1 to 4, which each call is told. Every value of the
+/// fields is a state.
 #[derive(Clone, Copy)]
 pub(crate) struct Slots<T: Copy> {
     first: T,
@@ -37,7 +37,7 @@ impl<T: Copy> Slots<T> {
         self.place = ((place + 1) % depth) as u8;
     }
 
-    // The value of the k-th push before now, k from 1 to the depth.
+    /// The value of the k-th push before now, k from 1 to the depth.
     #[tactic(auto, unfolding(crate::specs::Rings::value_back))]
     pub(crate) fn back(&self, depth: usize, k: u8) -> T
         requires some { 1 ≤ k }
@@ -48,7 +48,7 @@ impl<T: Copy> Slots<T> {
         self.slot((self.place as usize + depth - k as usize) % depth)
     }
 
-    // Puts `x` in the place of the value of the k-th push before now, k from 1 to the depth.
+    /// Puts `x` in the place of the value of the k-th push before now, k from 1 to the depth.
     #[tactic(auto, unfolding(crate::specs::Rings::with_value_back))]
     pub(crate) fn set_back(&mut self, depth: usize, k: u8, x: T)
         requires some { 1 ≤ k }

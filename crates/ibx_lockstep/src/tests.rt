@@ -1,6 +1,6 @@
-ghost use Rattle.std.specs.Prelude.{◌+◌, ◌%◌, ◌==◌};
+ghost use Rattle.std.specs.Prelude.{◌≡◌, ◌+◌, ◌%◌, ◌==◌};
 
-use crate::{CoreStep, Pair, Ring};
+use crate::{CoreCycle, CoreStep, Pair, Ring};
 
 // What is pushed, and the values of the last two pushes after it, as by hand.
 #[test]
@@ -74,6 +74,21 @@ impl CoreStep for Counter {
     }
 }
 
+// What a counter works out of a cycle is the count after it.
+impl CoreCycle for Counter {
+    type Begun = u8;
+
+    ghost keeps = { λ s i begun. begun ≡ (s.count + i) % 256 };
+
+    fn begin(&self, i: &u8) -> (u8, u8) {
+        (self.count, self.count.wrapping_add(*i))
+    }
+
+    fn finish(&mut self, begun: u8, _i: &u8) {
+        self.count = begun;
+    }
+}
+
 fn counters() -> Pair<Counter> {
     let counter = Counter { count: 10 };
     Pair::new(counter, counter, 0, 0)
@@ -105,6 +120,29 @@ fn told_two_cycles_later(rt: HostRuntime) {
         assert_eq!(rt; pair.main().count, output, "at cycle {i}");
         assert_eq!(rt; pair.age(), age, "at cycle {i}");
         assert_eq!(rt; turn(&mut pair, i), told, "at cycle {i}");
+    }
+}
+
+// The same rows with each cycle worked out once.
+#[test]
+fn told_of_begun_cycles(rt: HostRuntime) {
+    let rows = [
+        (1, 10, false),
+        (2, 11, false),
+        (3, 13, false),
+        (4, 17, false),
+        (5, 21, false),
+        (6, 26, true),
+        (7, 32, true),
+    ];
+    let mut pair = counters();
+    for (i, output, told) in rows {
+        if i == 4 {
+            pair.main_mut().count = 17;
+        }
+        let (o, begun) = pair.main().begin(&i);
+        assert_eq!(rt; o, output, "at cycle {i}");
+        assert_eq!(rt; pair.step_begun(begun, &i, &o), told, "at cycle {i}");
     }
 }
 

@@ -1,5 +1,6 @@
 -- One bit changed: of a field, of a delayed wire, and of the age of the delayed pairs.
-use Rattle.std.proofs.Common.{◌≡◌, ◌≢◌, ℕ, zero, suc, ◌+◌, ◌-◌, ◌*◌, ◌%◌, ◌^◌, ◌<◌, ◌≤◌, Bool, true, false, List, [], ◌∷◌, ◌++◌, length, set, get_or, refl, sym, ap, ◌∙◌, subst, arith}
+use Rattle.std.proofs.Common.{◌≡◌, ◌≢◌, ℕ, zero, suc, ◌+◌, ◌-◌, ◌*◌, ◌%◌, ◌^◌, ◌<◌, ◌≤◌, Bool, true, false, List, []}
+use Rattle.std.proofs.Common.{◌∷◌, ◌++◌, length, set, get_or, refl, sym, ap, ◌∙◌, subst, arith}
 use Rattle.std.specs.Prelude.{bit_xor, nat_le, slice_index, slice_set}
 use Rattle.std.specs.List.{list_all}
 use Rattle.std.proofs.lemmas.Bool.{and_parts, leb-true}
@@ -9,7 +10,8 @@ use Rattle.ibx_plan.specs.Names.{fields as field_table, width_in, wires}
 use Rattle.ibx_core.specs.declared.state.State.{State}
 use Rattle.ibx_core.specs.Fields.{bit, fields, widths}
 use Rattle.ibx_core.proofs.Widths.{width_is as field_width}
-use Rattle.ibx_core.specs.Flipped.{core_of, field_flip, in_numbers, in_of, is_set, number_flip, out_numbers, out_of, wire_flip}
+use Rattle.ibx_core.specs.Flipped.{core_of, field_flip, in_numbers, in_of, is_set, number_flip, out_numbers, out_of}
+use Rattle.ibx_core.specs.Flipped.{wire_flip}
 use Rattle.ibx_core.specs.Wires.{InWires as In, OutWires as Out}
 use Rattle.ibx_core.proofs.EqualFields.{core_of-fields, is_set-bit}
 use Rattle.ibx_soc.specs.Widths.{wire_width, wire_widths}
@@ -45,7 +47,8 @@ pub field_small : (field : ℕ) → width_in field_table field ≤ 64
 field_small field = subst (λ n. n ≤ 64) (sym (field_width field)) (small_at widths refl field)
 
 -- a field that is set to its value with one bit changed
-pub field_flip_is : (s t : State) (field k value : ℕ) → value ≡ bit_xor (slice_index (fields s) field) (2 ^ k) → fields t ≡ slice_set (fields s) field value → t ≡ field_flip field k s
+pub field_flip_is : (s t : State) (field k value : ℕ) → value ≡ bit_xor (slice_index (fields s) field) (2 ^ k) → fields
+    t ≡ slice_set (fields s) field value → t ≡ field_flip field k s
 unfolding field_flip
 field_flip_is s t field k value e h = sym (core_of-fields t) ∙ ap core_of (h ∙ ap (slice_set (fields s) field) e)
 
@@ -62,7 +65,8 @@ wire_small wire = small_at wire_widths refl wire
 
 -- a bit of a wire is one of 64
 pub bit_small : (wire k : ℕ) → k < width_in wires wire → k < 64
-bit_small wire k lt = let small = wire_small wire in let here : k < wire_width wire = subst (λ n. k < n) (width_is wire) lt in omega arith
+bit_small wire k lt = let small = wire_small wire in let here : k < wire_width wire = subst (λ n. k < n)
+    (width_is wire) lt in omega arith
 
 -- a bit of the age is one of two
 pub age_bit : (wire k : ℕ) → k < width_in wires wire → wire ≡ 36 → k < 2
@@ -106,12 +110,15 @@ pair_is : {A B : Type 0} {a b : A} {c d : B} → a ≡ b → c ≡ d → ◌≡�
 pair_is e h = λ t. (e t, h t)
 
 -- a wire of the input with one bit changed
-pub input_flip : (i j : In) (o : Out) (wire k value : ℕ) → wire < 16 → value ≡ bit_xor (slice_index (in_numbers i) wire) (2 ^ k)
+pub input_flip : (i j : In) (o : Out) (wire k value : ℕ) → wire < 16 → value ≡ bit_xor
+    (slice_index (in_numbers i) wire) (2 ^ k)
     → in_numbers j ≡ slice_set (in_numbers i) wire value → ◌≡◌ {A = In × Out} (j, o) (wire_flip wire k (i, o))
 unfolding wire_flip
 input_flip i j o wire k value lt e h =
-    let here : slice_index (in_numbers i ++ out_numbers o) wire ≡ slice_index (in_numbers i) wire = get_or_append_left (in_numbers i) (out_numbers o) 0 wire (input-count i wire lt) in
-    let flipped : bit_xor (slice_index (in_numbers i ++ out_numbers o) wire) (2 ^ k) ≡ value = ap (λ (n : ℕ). bit_xor n (2 ^ k)) here ∙ sym e in
+    let here : slice_index (in_numbers i ++ out_numbers o) wire ≡ slice_index (in_numbers i) wire = get_or_append_left
+    (in_numbers i) (out_numbers o) 0 wire (input-count i wire lt) in
+    let flipped : bit_xor (slice_index (in_numbers i ++ out_numbers o) wire) (2 ^ k) ≡ value = ap
+    (λ (n : ℕ). bit_xor n (2 ^ k)) here ∙ sym e in
     let all : number_flip wire k (in_numbers i ++ out_numbers o) ≡ in_numbers j ++ out_numbers o =
     ap (slice_set (in_numbers i ++ out_numbers o) wire) flipped
     ∙ set-append_left (in_numbers i) (out_numbers o) wire value (input-count i wire lt)
@@ -119,14 +126,19 @@ input_flip i j o wire k value lt e h =
     sym (ap (λ (xs : List ℕ). (in_of xs, out_of xs o)) all ∙ pair_is (in_of-numbers j o) (out_of-numbers j o o refl))
 
 -- a wire of the output with one bit changed
-pub output_flip : (i : In) (o p : Out) (wire k value : ℕ) → 16 ≤ wire → value ≡ bit_xor (slice_index (out_numbers o) (wire - 16)) (2 ^ k)
-    → out_numbers p ≡ slice_set (out_numbers o) (wire - 16) value → p.event ≡ o.event → ◌≡◌ {A = In × Out} (i, p) (wire_flip wire k (i, o))
+pub output_flip : (i : In) (o p : Out) (wire k value : ℕ) → 16 ≤ wire → value ≡ bit_xor
+    (slice_index (out_numbers o) (wire - 16)) (2 ^ k)
+    → out_numbers p ≡ slice_set (out_numbers o) (wire - 16) value → p.event ≡ o.event → ◌≡◌ {A = In × Out} (i, p)
+    (wire_flip wire k (i, o))
 unfolding wire_flip
 output_flip i o p wire k value le e h same =
-    let here : slice_index (in_numbers i ++ out_numbers o) wire ≡ slice_index (out_numbers o) (wire - 16) = get_or-append_right (in_numbers i) (out_numbers o) 16 wire 0 (input-length i) le in
-    let flipped : bit_xor (slice_index (in_numbers i ++ out_numbers o) wire) (2 ^ k) ≡ value = ap (λ (n : ℕ). bit_xor n (2 ^ k)) here ∙ sym e in
+    let here : slice_index (in_numbers i ++ out_numbers o) wire ≡ slice_index (out_numbers o) (wire - 16) =
+    get_or-append_right (in_numbers i) (out_numbers o) 16 wire 0 (input-length i) le in
+    let flipped : bit_xor (slice_index (in_numbers i ++ out_numbers o) wire) (2 ^ k) ≡ value = ap
+    (λ (n : ℕ). bit_xor n (2 ^ k)) here ∙ sym e in
     let all : number_flip wire k (in_numbers i ++ out_numbers o) ≡ in_numbers i ++ out_numbers p =
     ap (slice_set (in_numbers i ++ out_numbers o) wire) flipped
     ∙ set-append_right (in_numbers i) (out_numbers o) 16 wire value (input-length i) le
     ∙ ap (λ (xs : List ℕ). in_numbers i ++ xs) (sym h) in
-    sym (ap (λ (xs : List ℕ). (in_of xs, out_of xs o)) all ∙ pair_is (in_of-numbers i p) (out_of-numbers i p o (sym same)))
+    sym (ap (λ (xs : List ℕ). (in_of xs, out_of xs o)) all ∙ pair_is (in_of-numbers i p)
+    (out_of-numbers i p o (sym same)))

@@ -28,8 +28,10 @@ pub with_wire : (p q : Paired State In Out) (place : Place) (slot wire k : ℕ) 
 unfolding core_parts
 with_wire p q place zero wire k x lt ne h e =
     rw (ne_eqb wire 36 ne)
-    (ap (λ (r : Paired State In Out). whole_in r place) h ∙ ap (λ (y : In × Out). whole_in (record p { older = y }) place) e)
+    (ap (λ (r : Paired State In Out). whole_in r place) h ∙ ap (λ (y : In × Out). whole_in (record p { older = y })
+    place) e)
 with_wire p q place (suc zero) wire k x lt ne h e =
     rw (ne_eqb wire 36 ne)
-    (ap (λ (r : Paired State In Out). whole_in r place) h ∙ ap (λ (y : In × Out). whole_in (record p { newer = y }) place) e)
+    (ap (λ (r : Paired State In Out). whole_in r place) h ∙ ap (λ (y : In × Out). whole_in (record p { newer = y })
+    place) e)
 with_wire p q place (suc (suc slot)) wire k x lt ne h e = absurd (omega arith)

@@ -26,7 +26,8 @@ delay_slot n slot wire bit h = (in_ranges (ranged slot 0 (slots wire)) (ranged b
 pub delay_bit : (n slot wire bit : ℕ) → site_fits n (site.Delay slot wire bit) ≡ true → bit < width_in wires wire
 unfolding site_fits ranges
 delay_bit n slot wire bit h =
-    (in_ranges (ranged bit 0 (width_in wires wire)) [] (in_ranges (ranged slot 0 (slots wire)) (ranged bit 0 (width_in wires wire) ∷ []) h).2).1
+    (in_ranges (ranged bit 0 (width_in wires wire)) [] (in_ranges (ranged slot 0 (slots wire))
+    (ranged bit 0 (width_in wires wire) ∷ []) h).2).1
 
 -- the word and the bit of an output word
 pub pending_fits : (n wire bit : ℕ) → site_fits n (site.Output wire bit) ≡ true → PendingFits (Some (wire, bit))

@@ -5,7 +5,7 @@ ghost use Rattle.ibx_soc.specs.Widths.{wire_width};
 
 use ibx_core::{Core, In, Out};
 
-/// How many wires the input of a delayed pair has; those of its output come after them.
+// How many wires the input of a delayed pair has; those of its output come after them.
 const INPUTS: u8 = 16;
 
 // A number by value, whose range is known.

@@ -53,7 +53,7 @@ fn mul_wire(mul: MulKind) -> u8
 }
 
 impl<'p> Memories<'p> {
-    /// What the words show in this cycle, before the grants and without a pending flip.
+    // What the words show in this cycle, before the grants and without a pending flip.
     #[tactic(auto, unfolding(ibx_flips::specs::System::shown), using(ibx_flips::proofs::Bus::answer_is))]
     fn show(&self, r: &Reads) -> In
         requires sizes { Sizes self.now }

@@ -44,7 +44,7 @@ impl<'p> Model for Soc<'p> {
     ghost invariant = { λ soc. IsSound soc.pair soc.memories };
 }
 
-/// The number of the age of the delayed pairs among the delayed wires.
+// The number of the age of the delayed pairs among the delayed wires.
 const AGE: u8 = 36;
 
 // Changes a bit of a delayed wire, or of the age of the delayed pairs.
@@ -98,7 +98,7 @@ impl<'p> Soc<'p> {
         })
     }
 
-    /// Makes one cycle, whose number is below 2^62.
+    /// Makes one cycle, whose number is below 2^62. Each core works its cycle out once.
     #[tactic(auto, unfolding(crate::specs::Cycles::cycle_of, ibx_flips::specs::Core::core_parts, ibx_flips::specs::System::next, ibx_lockstep::specs::Paired::is_told, ibx_lockstep::specs::Paired::stepped))]
     pub fn step(&mut self) -> Cycle
         requires { self.old.place.cycle < 2 ^ 62 }
@@ -110,14 +110,14 @@ impl<'p> Soc<'p> {
         let at = self.memories.cycle;
         let reads = self.pair.main().reads();
         let shown = self.memories.look(&reads);
-        let o = self.pair.main().out(&shown);
+        let (o, begun) = self.pair.main().begin(&shown);
         let (igrant, dgrant) = self.memories.settle(&o);
         let i = In {
             igrant,
             dgrant,
             ..shown
         };
-        let told = self.pair.step(&i, &o);
+        let told = self.pair.step_begun(begun, &i, &o);
         Cycle::of(at, told, &o)
     }
 

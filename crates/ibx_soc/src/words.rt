@@ -4,7 +4,7 @@ ghost use Rattle.ibx_flips.specs.System.{registers_after, tags_after, way_after,
 use ibx_core::Out;
 use ibx_ram::{CodedRam, RegFile};
 
-/// Whether a set of ways has this one.
+// Whether a set of ways has this one.
 fn has_way(ways: u8, way: u8) -> bool
     requires { way < 2 }
     ensures { result ≡ writes_way ways way }

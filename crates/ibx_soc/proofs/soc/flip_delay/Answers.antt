@@ -13,6 +13,7 @@ with_wire_flip-i-requires-clause-wire c = wire_inside c.args.wire c.args.bit c.r
 
 pub returns-else-wire-eq-AGE-clause-made : goal.returns-else-wire-eq-AGE-clause-made
 returns-else-wire-eq-AGE-clause-made c = λ place.
-    with_wire (seen c.args.pair.now) (seen c.set_delay.new.self) place c.args.slot c.args.wire c.args.bit c.with_wire_flip-i.result
+    with_wire (seen c.args.pair.now) (seen c.set_delay.new.self) place c.args.slot c.args.wire c.args.bit
+    c.with_wire_flip-i.result
     (slot_small c.args.slot c.args.wire c.requires.slot) c.if-wire-eq-AGE.false c.set_delay.ensures
     (c.with_wire_flip-i.ensures ∙ ap (wire_flip c.args.wire c.args.bit) c.delay-i.ensures)

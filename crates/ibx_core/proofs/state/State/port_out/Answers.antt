@@ -7,5 +7,6 @@ use Rattle.ibx_core.proofs.state.State.port_out.Goals as goal
 
 pub returns-clause-minor : goal.returns-clause-minor
 returns-clause-minor c =
-    ap (λ (o : CacheOut). o.alerts.0 % 2 == 1) (c.out.ensures.value ∙ ap (out_of c.args.self.now.words) c.cache_in.ensures.value)
+    ap (λ (o : CacheOut). o.alerts.0 % 2 == 1) (c.out.ensures.value ∙ ap (out_of c.args.self.now.words)
+    c.cache_in.ensures.value)
     ∙ minor_is c.args.self.now c.args.i.now c.args.c.now.request c.args.c.now.effect.fence

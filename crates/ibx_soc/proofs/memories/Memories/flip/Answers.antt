@@ -10,6 +10,7 @@ returns-in-Output-clause-sizes c =
       tags = c.requires.sizes.tags;
       lines = c.requires.sizes.lines;
       words = c.requires.sizes.words;
-      pending = pending_fits n c.in-Output.wire c.in-Output.bit (ap (λ (x : Site). site_fits n x) (sym c.in-Output.is) ∙ c.requires.fits);
+      pending = pending_fits n c.in-Output.wire c.in-Output.bit (ap (λ (x : Site). site_fits n x) (sym c.in-Output.is)
+          ∙ c.requires.fits);
       mul = c.requires.sizes.mul;
     }

@@ -9,10 +9,12 @@ pub flip_field-requires-clause-field : goal.flip_field-requires-clause-field
 flip_field-requires-clause-field c =
     let n = length c.self.inside.memories.memory.words in
     field_inside c.in-Main.field c.in-Main.bit
-    (main_bit n c.in-Main.field c.in-Main.bit (ap (λ (x : Site). site_fits n x) (sym c.in-Main.is) ∙ sym c.has.ensures ∙ c.if-not-has.false))
+    (main_bit n c.in-Main.field c.in-Main.bit (ap (λ (x : Site). site_fits n x) (sym c.in-Main.is) ∙ sym c.has.ensures
+    ∙ c.if-not-has.false))
 
 pub flip_field-requires-in-Shadow-clause-field : goal.flip_field-requires-in-Shadow-clause-field
 flip_field-requires-in-Shadow-clause-field c =
     let n = length c.self.inside.memories.memory.words in
     field_inside c.in-Shadow.field c.in-Shadow.bit
-    (shadow_bit n c.in-Shadow.field c.in-Shadow.bit (ap (λ (x : Site). site_fits n x) (sym c.in-Shadow.is) ∙ sym c.has.ensures ∙ c.if-not-has.false))
+    (shadow_bit n c.in-Shadow.field c.in-Shadow.bit (ap (λ (x : Site). site_fits n x) (sym c.in-Shadow.is) ∙ sym
+    c.has.ensures ∙ c.if-not-has.false))
