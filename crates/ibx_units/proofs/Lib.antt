@@ -1,0 +1,9 @@
+mod Requests
+mod Answers
+mod Fields
+mod Stored
+mod Coded
+mod Steps
+mod Both
+mod Histories
+mod Held
