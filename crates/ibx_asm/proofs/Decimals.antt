@@ -1,5 +1,7 @@
 -- A decimal number is read as what was written.
-use Rattle.std.proofs.Common.{◌≡◌, ℕ, ◌+◌, ◌*◌, ◌/◌, ◌%◌, ◌^◌, ◌<◌, ◌≤◌, Bool, true, false, eqb, nat_eq, nat_lt, nat_le, ◌&&◌, List, [], ◌∷◌, ◌++◌, length, codes, Option, Some, None, refl, ◌∙◌, ap, arith, lit<, length-append, add-one}
+use Rattle.std.proofs.Common.{◌≡◌, ℕ, ◌+◌, ◌*◌, ◌/◌, ◌%◌, ◌^◌, ◌<◌, ◌≤◌, Bool, true, false, eqb, nat_eq, nat_lt, nat_le}
+use Rattle.std.proofs.Common.{◌&&◌, List, [], ◌∷◌, ◌++◌, length, codes, Option, Some, None, refl, ◌∙◌, ap, arith, lit<}
+use Rattle.std.proofs.Common.{length-append, add-one}
 use Rattle.std.specs.Char.{digit_value, is_digit}
 use Rattle.std.specs.Fmt.{decimal}
 use Rattle.std.specs.List.{list_all, starts_with}
@@ -17,34 +19,40 @@ use Rattle.ibx_asm.proofs.Shown.{is_fine}
 
 -- a decimal digit: from `0` to `9`, a fine byte, and read as what it stands for
 digit_test : ℕ → Bool
-digit_test d = is_fine (48 + d) && (is_digit (48 + d) 10 && (eqb (digit_value (48 + d)) d && (nat_le 48 (48 + d) && nat_lt (48 + d) 58)))
+digit_test d = is_fine (48 + d) &&
+    (is_digit (48 + d) 10 && (eqb (digit_value (48 + d)) d && (nat_le 48 (48 + d) && nat_lt (48 + d) 58)))
 
 -- a byte from `0` to `9`
 abbrev pub is_decimal : ℕ → Bool
 is_decimal byte = nat_le 48 byte && nat_lt byte 58
 
 -- what holds of the digit of a number below 10
-digit_reads : (d : ℕ) → d < 10 → (is_fine (48 + d) ≡ true) × (is_digit (48 + d) 10 ≡ true) × (digit_value (48 + d) ≡ d) × (is_decimal (48 + d) ≡ true)
+digit_reads : (d : ℕ) → d < 10 → (is_fine (48 + d) ≡ true) × (is_digit (48 + d) 10 ≡ true) × (digit_value (48 + d) ≡ d)
+    × (is_decimal (48 + d) ≡ true)
 unfolding digit_test below
 digit_reads d h =
     let all : digit_test d ≡ true = at_below digit_test 10 d refl h in
-    let p = and_parts (is_fine (48 + d)) (is_digit (48 + d) 10 && (eqb (digit_value (48 + d)) d && is_decimal (48 + d))) all in
+    let p = and_parts (is_fine (48 + d)) (is_digit (48 + d) 10 && (eqb (digit_value (48 + d)) d && is_decimal
+    (48 + d))) all in
     let q = and_parts (is_digit (48 + d) 10) (eqb (digit_value (48 + d)) d && is_decimal (48 + d)) p.1 in
     let r = and_parts (eqb (digit_value (48 + d)) d) (is_decimal (48 + d)) q.1 in
     (p.0, q.0, eqb-true (digit_value (48 + d)) d r.0, r.1)
 
 -- the value of digits, and of one more digit after them
-snoc_value : (b n x d : ℕ) (o : Option ℕ) → option_map (λ r. x * b ^ (n + 1) + r) (option_map (λ v. v * b + d) o) ≡ option_map (λ v. v * b + d) (option_map (λ r. x * b ^ n + r) o)
+snoc_value : (b n x d : ℕ) (o : Option ℕ) → option_map (λ r. x * b ^ (n + 1) + r) (option_map (λ v. v * b + d) o) ≡
+    option_map (λ v. v * b + d) (option_map (λ r. x * b ^ n + r) o)
 snoc_value b n x d None = refl
 snoc_value b n x d (Some v) = ap Some (rw (add-one n, pow-suc b n) (omega arith))
 
 -- the value of decimal digits and of one more
-one_more : (ds : List ℕ) (g : ℕ) → list_all (λ x. is_digit x 10) ds ≡ true → is_digit g 10 ≡ true → value_in 10 (ds ++ g ∷ []) ≡ option_map (λ v. v * 10 + digit_value g) (value_in 10 ds)
+one_more : (ds : List ℕ) (g : ℕ) → list_all (λ x. is_digit x 10) ds ≡ true → is_digit g 10 ≡ true → value_in 10
+    (ds ++ g ∷ []) ≡ option_map (λ v. v * 10 + digit_value g) (value_in 10 ds)
 unfolding value_in
 one_more [] g h k = rw (k, pow-zero) (ap Some (omega arith))
 one_more (x ∷ ds) g h k =
     let p = and_parts (is_digit x 10) (list_all (λ x. is_digit x 10) ds) h in
-    rw (p.0, length-append ds (g ∷ []), one_more ds g p.1 k) (snoc_value 10 (length ds) (digit_value x) (digit_value g) (value_in 10 ds))
+    rw (p.0, length-append ds (g ∷ []), one_more ds g p.1 k) (snoc_value 10 (length ds) (digit_value x) (digit_value g)
+    (value_in 10 ds))
 
 -- what holds of a decimal number
 pub record Reads (n : ℕ) (ds : List ℕ) : Type 0 where
@@ -114,7 +122,8 @@ number_reads n h =
     rw (not_hexadecimal (decimal n) r.decimal, some, few) r.value
 
 -- a number with this sign
-with_sign : (b : Bool) (n : ℕ) → n < 10 ^ 10 → signed_of (signed_text (record { minus = b; size = n })) ≡ Some (record { minus = b; size = n })
+with_sign : (b : Bool) (n : ℕ) → n < 10 ^ 10 → signed_of (signed_text (record { minus = b; size = n })) ≡ Some
+    (record { minus = b; size = n })
 unfolding signed_of signed_text
 with_sign true n h = rw (number_reads n h) refl
 with_sign false n h = rw (not_negative (decimal n) (decimal_reads n (omega (arith, h))).decimal, number_reads n h) refl

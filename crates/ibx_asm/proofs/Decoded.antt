@@ -22,7 +22,8 @@ found_any h p (x ∷ xs) = elim (cases_Bool (p x)) [
 ]
 
 -- a test of what elements stand for
-any_mapped : {X Y : Type 0} (h : X → Y) (p : Y → Bool) (xs : List X) → list_any (λ x. p (h x)) xs ≡ list_any p (map h xs)
+any_mapped : {X Y : Type 0} (h : X → Y) (p : Y → Bool) (xs : List X) → list_any (λ x. p (h x)) xs ≡ list_any p
+    (map h xs)
 any_mapped h p [] = refl
 any_mapped h p (x ∷ xs) = ap (λ (rest : Bool). p (h x) || rest) (any_mapped h p xs)
 

@@ -1,5 +1,6 @@
 -- What is found in a list, and in the list of what its elements stand for.
-use Rattle.std.proofs.Common.{◌≡◌, ℕ, ◌≤◌, Bool, true, nat_le, List, [], ◌∷◌, map, Option, Some, None, IfSome, refl, ap, ◌∙◌, inl, inr, arith}
+use Rattle.std.proofs.Common.{◌≡◌, ℕ, ◌≤◌, Bool, true, nat_le, List, [], ◌∷◌, map, Option, Some, None, IfSome, refl, ap}
+use Rattle.std.proofs.Common.{◌∙◌, inl, inr, arith}
 use Rattle.std.specs.List.{find, list_all}
 use Rattle.std.specs.Option.{option_map}
 use Rattle.std.specs.Str.{bytes_eq}
@@ -10,7 +11,8 @@ use Rattle.ibx_asm.specs.Held.{row_meant}
 use Rattle.ibx_asm.specs.Mnemonics.{rows, encoding_of}
 
 -- what is found stands for what is found among what the elements stand for
-pub find_mapped : {X Y : Type 0} (h : X → Y) (p : Y → Bool) (xs : List X) → option_map h (find (λ x. p (h x)) xs) ≡ find p (map h xs)
+pub find_mapped : {X Y : Type 0} (h : X → Y) (p : Y → Bool) (xs : List X) → option_map h (find (λ x. p (h x)) xs) ≡
+    find p (map h xs)
 find_mapped h p [] = refl
 find_mapped h p (x ∷ xs) = elim (cases_Bool (p (h x))) [
   | inl f ↦ rw f refl
@@ -18,7 +20,8 @@ find_mapped h p (x ∷ xs) = elim (cases_Bool (p (h x))) [
 ]
 
 -- what is found passes each test that all elements pass
-pub found_passes : {X : Type 0} (p test : X → Bool) (xs : List X) → list_all test xs ≡ true → IfSome (find p xs) (λ x. test x ≡ true)
+pub found_passes : {X : Type 0} (p test : X → Bool) (xs : List X) → list_all test xs ≡ true → IfSome (find p xs)
+    (λ x. test x ≡ true)
 found_passes p test [] h = tt
 found_passes p test (x ∷ xs) h =
     let both = and_parts (test x) (list_all test xs) h in
@@ -28,16 +31,20 @@ found_passes p test (x ∷ xs) h =
     ]
 
 -- the encoding of a short row is short
-second : (o : Option (List ℕ × Encoding)) → IfSome o (λ row. nat_le row.1.size 4 ≡ true) → IfSome (option_map (λ row. row.1) o) (λ e. e.size ≤ 4)
+second : (o : Option (List ℕ × Encoding)) → IfSome o (λ row. nat_le row.1.size 4 ≡ true) → IfSome
+    (option_map (λ row. row.1) o) (λ e. e.size ≤ 4)
 second None h = tt
 second (Some row) h = grind (arith, h)
 
 -- no instruction or directive is longer than 4 bytes
 pub is_short : (name : List ℕ) → IfSome (encoding_of name) (λ e. e.size ≤ 4)
 unfolding encoding_of
-is_short name = second (find (λ row. bytes_eq row.0 name) rows) (found_passes (λ row. bytes_eq row.0 name) (λ row. nat_le row.1.size 4) rows refl)
+is_short name = second (find (λ row. bytes_eq row.0 name) rows) (found_passes (λ row. bytes_eq row.0 name)
+    (λ row. nat_le row.1.size 4) rows refl)
 
 -- what a table of rows finds stands for what is found among what its rows stand for
 pub named : (table : List Row) (name : List ℕ) (o : Option Row) → o ≡ find (λ row. bytes_eq row.0.now name) table
-    → option_map {U = Encoding} (λ row. row.1) (option_map row_meant o) ≡ option_map (λ row. row.1) (find (λ row. bytes_eq row.0 name) (map row_meant table))
-named table name o found = ap (λ o. option_map {U = Encoding} (λ row. row.1) (option_map row_meant o)) found ∙ ap (option_map (λ row. row.1)) (find_mapped row_meant (λ row. bytes_eq row.0 name) table)
+    → option_map {U = Encoding} (λ row. row.1) (option_map row_meant o) ≡ option_map (λ row. row.1)
+    (find (λ row. bytes_eq row.0 name) (map row_meant table))
+named table name o found = ap (λ o. option_map {U = Encoding} (λ row. row.1) (option_map row_meant o)) found ∙ ap
+    (option_map (λ row. row.1)) (find_mapped row_meant (λ row. bytes_eq row.0 name) table)

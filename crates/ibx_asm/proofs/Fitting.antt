@@ -1,5 +1,6 @@
 -- The operands of a word's text fit their slots, and give back the word's bits there.
-use Rattle.std.proofs.Common.{◌≡◌, ℕ, ◌+◌, ◌*◌, ◌/◌, ◌%◌, ◌^◌, ◌<◌, Bool, true, false, not, eqb, nat_le, ◌&&◌, ◌||◌, List, [], ◌∷◌, map, refl, sym, ◌∙◌, ap, inl, inr, arith, lit<}
+use Rattle.std.proofs.Common.{◌≡◌, ℕ, ◌+◌, ◌*◌, ◌/◌, ◌%◌, ◌^◌, ◌<◌, Bool, true, false, not, eqb, nat_le, ◌&&◌, ◌||◌}
+use Rattle.std.proofs.Common.{List, [], ◌∷◌, map, refl, sym, ◌∙◌, ap, inl, inr, arith, lit<}
 use Rattle.std.specs.Prelude.{bit_and}
 use Rattle.std.specs.List.{list_all}
 use Rattle.std.specs.Int.Bits.{and_zero_r}
@@ -144,7 +145,8 @@ unfolding gathered scattered field_mask
 scattered_back f w v e = let p = parts f in placed_back w v (width_of f) (places_of f) (places_of f) e p.0 p.1
 
 -- the number of a field gives back the word's bits
-pub field_bits : (f : Field) (w : ℕ) → scattered f (twos_complement (number_in f (gathered f w))) ≡ bit_and w (field_mask f)
+pub field_bits : (f : Field) (w : ℕ) → scattered f (twos_complement (number_in f (gathered f w))) ≡ bit_and w
+    (field_mask f)
 field_bits f w = scattered_back f w (twos_complement (number_in f (gathered f w))) (field_fitting f w).1
 
 -- nothing is placed of 0
@@ -227,7 +229,8 @@ field_holds w f es h k =
       | inr among ↦
           let other = not_excepted w (field_mask f) 0 es among k in
           elim (cases_Bool (eqb (gathered f w) 0)) [
-            | inl e ↦ absurd (unequal (bit_and w (field_mask f)) 0 (field_of_zero f w (eqb-true (gathered f w) 0 e)) other)
+            | inl e ↦ absurd (unequal (bit_and w (field_mask f)) 0 (field_of_zero f w (eqb-true (gathered f w) 0 e))
+                other)
             | inr e ↦ rw e (or_right (range_of f).zero true refl)
           ]
     ])

@@ -3,7 +3,6 @@ pub mod DataLines
 pub mod Decimals
 pub mod Decoded
 pub mod Denoting
-pub mod DigitLemmas
 pub mod Finding
 pub mod Fitting
 pub mod Lines
@@ -13,6 +12,7 @@ pub mod Parts
 pub mod RoundTrip
 pub mod Shown
 pub mod Slots
+pub mod Standing
 pub mod Texts
 pub mod Tokens
 pub mod Values

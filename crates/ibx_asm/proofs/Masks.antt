@@ -1,9 +1,11 @@
 -- Bits of a word under masks, and the parts of a field's number.
-use Rattle.std.proofs.Common.{◌≡◌, ℕ, ◌+◌, ◌-◌, ◌*◌, ◌/◌, ◌%◌, ◌^◌, ◌<◌, ◌≤◌, Bool, true, false, eqb, min, max, nat_le, ◌&&◌, ◌||◌, List, [], ◌∷◌, map, refl, sym, ◌∙◌, ap, inl, inr, arith, lit<}
+use Rattle.std.proofs.Common.{◌≡◌, ℕ, ◌+◌, ◌-◌, ◌*◌, ◌/◌, ◌%◌, ◌^◌, ◌<◌, ◌≤◌, Bool, true, false, eqb, min, max, nat_le}
+use Rattle.std.proofs.Common.{◌&&◌, ◌||◌, List, [], ◌∷◌, map, refl, sym, ◌∙◌, ap, inl, inr, arith, lit<}
 use Rattle.std.specs.Prelude.{bit_and, bit_or}
 use Rattle.std.specs.List.{list_all}
 use Rattle.std.specs.Int.Bits.{or_zero_l, or_zero_r, and_zero_r}
-use Rattle.std.proofs.Math.Nat.{mod-eq_of_lt, mod-lt, mul-mod_left, mul-div_left, mul-add-div_right, div-eq_of_lt, pow-le-pow_right, mul-le-mul}
+use Rattle.std.proofs.Math.Nat.{mod-eq_of_lt, mod-lt, mul-mod_left, mul-div_left, mul-add-div_right, div-eq_of_lt}
+use Rattle.std.proofs.Math.Nat.{pow-le-pow_right, mul-le-mul}
 use Rattle.std.proofs.Math.Pow.{mod-mod-pow}
 use Rattle.std.proofs.lemmas.Bool.{and_parts, or_cases, eqb-true}
 use Rattle.std.proofs.lemmas.Nat.{pow-add, pow_pos, mod-pow-add, or_shr, or_mod, or_lt}
@@ -113,7 +115,8 @@ read_same : (w : ℕ) (q p : ℕ × ℕ × ℕ) → same q p ≡ true → bits_a
 read_same w q p h =
     let k = and_parts (eqb p.0 q.0) (eqb p.1 q.1 && eqb p.2 q.2) h in
     let l = and_parts (eqb p.1 q.1) (eqb p.2 q.2) k.1 in
-    rw (eqb-true p.0 q.0 k.0, eqb-true p.1 q.1 l.0, eqb-true p.2 q.2 l.1) (own_part (bits_at w q.2 q.1) q.0 q.1 (part_small w q))
+    rw (eqb-true p.0 q.0 k.0, eqb-true p.1 q.1 l.0, eqb-true p.2 q.2 l.1) (own_part (bits_at w q.2 q.1) q.0 q.1
+    (part_small w q))
 
 -- among others too
 read_once : (w : ℕ) (q : ℕ × ℕ × ℕ) (ps : List (ℕ × ℕ × ℕ)) → once q ps ≡ true

@@ -1,5 +1,6 @@
 -- The operands of a word's text are read as the values of its fields.
-use Rattle.std.proofs.Common.{◌≡◌, ℕ, ◌+◌, ◌-◌, ◌*◌, ◌/◌, ◌^◌, ◌<◌, Bool, true, false, cond, nat_le, [], Some, refl, ◌∙◌, ap, arith, lit<}
+use Rattle.std.proofs.Common.{◌≡◌, ℕ, ◌+◌, ◌-◌, ◌*◌, ◌/◌, ◌^◌, ◌<◌, Bool, true, false, cond, nat_le, [], Some, refl}
+use Rattle.std.proofs.Common.{◌∙◌, ap, arith, lit<}
 use Rattle.std.proofs.Math.Nat.{mod-eq_of_lt, mod-lt}
 use Rattle.ibx_bits.specs.Bytes.{bits_at}
 use Rattle.ibx_asm.specs.declared.fields.Field.{Field}
@@ -51,17 +52,20 @@ limits field.Half = (lit< tt, lit< tt)
 limits field.Byte = (lit< tt, lit< tt)
 
 -- a number within such ends is as small
-sized : (b : Bool) (bits low high : ℕ) → nat_le bits high ≡ b → high < 10 ^ 10 → 2 * low < 10 ^ 10 → (cond b (plus bits) (minus (2 * low - bits))).size < 10 ^ 10
+sized : (b : Bool) (bits low high : ℕ) → nat_le bits high ≡ b → high < 10 ^ 10 → 2 * low < 10 ^ 10 →
+    (cond b (plus bits) (minus (2 * low - bits))).size < 10 ^ 10
 sized true bits low high e h k = grind (arith, e)
 sized false bits low high e h k = omega (arith, k)
 
 -- the number of a field has at most 10 digits
 pub small_number : (f : Field) (bits : ℕ) → (number_in f bits).size < 10 ^ 10
 unfolding number_in
-small_number f bits = sized (nat_le bits (range_of f).highest) bits (range_of f).lowest (range_of f).highest refl (limits f).0 (limits f).1
+small_number f bits = sized (nat_le bits (range_of f).highest) bits (range_of f).lowest (range_of f).highest refl
+    (limits f).0 (limits f).1
 
 -- the upper 20 bits of LUI and AUIPC are read as what was written
-upper_reads : (w : ℕ) → signed_of (number_text field.U (gathered field.U w)) ≡ Some (number_in field.U (gathered field.U w))
+upper_reads : (w : ℕ) → signed_of (number_text field.U (gathered field.U w)) ≡ Some
+    (number_in field.U (gathered field.U w))
 unfolding number_text gathered places_of united number_in range_of
 upper_reads w =
     let bits : ℕ = bits_at w 12 20 * 2 ^ 0 in
@@ -70,7 +74,8 @@ upper_reads w =
     rw low (hex_number 5 bits (lit< tt) (omega arith) ∙ ap (λ (n : ℕ). Some (plus n)) (mod-eq_of_lt less))
 
 -- and the address of a CSR
-csr_reads : (w : ℕ) → signed_of (number_text field.Csr (gathered field.Csr w)) ≡ Some (number_in field.Csr (gathered field.Csr w))
+csr_reads : (w : ℕ) → signed_of (number_text field.Csr (gathered field.Csr w)) ≡ Some
+    (number_in field.Csr (gathered field.Csr w))
 unfolding number_text gathered places_of united number_in range_of
 csr_reads w =
     let bits : ℕ = bits_at w 20 12 * 2 ^ 0 in
@@ -81,27 +86,46 @@ csr_reads w =
 -- a field's number is read as what was written
 pub field_reads : (f : Field) (w : ℕ) → signed_of (number_text f (gathered f w)) ≡ Some (number_in f (gathered f w))
 unfolding number_text
-field_reads field.I w = signed_reads (number_in field.I (gathered field.I w)) (small_number field.I (gathered field.I w))
-field_reads field.S w = signed_reads (number_in field.S (gathered field.S w)) (small_number field.S (gathered field.S w))
-field_reads field.B w = signed_reads (number_in field.B (gathered field.B w)) (small_number field.B (gathered field.B w))
+field_reads field.I w = signed_reads (number_in field.I (gathered field.I w))
+    (small_number field.I (gathered field.I w))
+field_reads field.S w = signed_reads (number_in field.S (gathered field.S w))
+    (small_number field.S (gathered field.S w))
+field_reads field.B w = signed_reads (number_in field.B (gathered field.B w))
+    (small_number field.B (gathered field.B w))
 field_reads field.U w = upper_reads w
-field_reads field.J w = signed_reads (number_in field.J (gathered field.J w)) (small_number field.J (gathered field.J w))
-field_reads field.Shift w = signed_reads (number_in field.Shift (gathered field.Shift w)) (small_number field.Shift (gathered field.Shift w))
+field_reads field.J w = signed_reads (number_in field.J (gathered field.J w))
+    (small_number field.J (gathered field.J w))
+field_reads field.Shift w = signed_reads (number_in field.Shift (gathered field.Shift w))
+    (small_number field.Shift (gathered field.Shift w))
 field_reads field.Csr w = csr_reads w
-field_reads field.Source w = signed_reads (number_in field.Source (gathered field.Source w)) (small_number field.Source (gathered field.Source w))
-field_reads field.StackAddress w = signed_reads (number_in field.StackAddress (gathered field.StackAddress w)) (small_number field.StackAddress (gathered field.StackAddress w))
-field_reads field.ShortOffset w = signed_reads (number_in field.ShortOffset (gathered field.ShortOffset w)) (small_number field.ShortOffset (gathered field.ShortOffset w))
-field_reads field.StackLoad w = signed_reads (number_in field.StackLoad (gathered field.StackLoad w)) (small_number field.StackLoad (gathered field.StackLoad w))
-field_reads field.StackStore w = signed_reads (number_in field.StackStore (gathered field.StackStore w)) (small_number field.StackStore (gathered field.StackStore w))
-field_reads field.Six w = signed_reads (number_in field.Six (gathered field.Six w)) (small_number field.Six (gathered field.Six w))
-field_reads field.Upper w = signed_reads (number_in field.Upper (gathered field.Upper w)) (small_number field.Upper (gathered field.Upper w))
-field_reads field.StackAdjust w = signed_reads (number_in field.StackAdjust (gathered field.StackAdjust w)) (small_number field.StackAdjust (gathered field.StackAdjust w))
-field_reads field.ShortShift w = signed_reads (number_in field.ShortShift (gathered field.ShortShift w)) (small_number field.ShortShift (gathered field.ShortShift w))
-field_reads field.ShortJump w = signed_reads (number_in field.ShortJump (gathered field.ShortJump w)) (small_number field.ShortJump (gathered field.ShortJump w))
-field_reads field.ShortBranch w = signed_reads (number_in field.ShortBranch (gathered field.ShortBranch w)) (small_number field.ShortBranch (gathered field.ShortBranch w))
-field_reads field.Word w = signed_reads (number_in field.Word (gathered field.Word w)) (small_number field.Word (gathered field.Word w))
-field_reads field.Half w = signed_reads (number_in field.Half (gathered field.Half w)) (small_number field.Half (gathered field.Half w))
-field_reads field.Byte w = signed_reads (number_in field.Byte (gathered field.Byte w)) (small_number field.Byte (gathered field.Byte w))
+field_reads field.Source w = signed_reads (number_in field.Source (gathered field.Source w))
+    (small_number field.Source (gathered field.Source w))
+field_reads field.StackAddress w = signed_reads (number_in field.StackAddress (gathered field.StackAddress w))
+    (small_number field.StackAddress (gathered field.StackAddress w))
+field_reads field.ShortOffset w = signed_reads (number_in field.ShortOffset (gathered field.ShortOffset w))
+    (small_number field.ShortOffset (gathered field.ShortOffset w))
+field_reads field.StackLoad w = signed_reads (number_in field.StackLoad (gathered field.StackLoad w))
+    (small_number field.StackLoad (gathered field.StackLoad w))
+field_reads field.StackStore w = signed_reads (number_in field.StackStore (gathered field.StackStore w))
+    (small_number field.StackStore (gathered field.StackStore w))
+field_reads field.Six w = signed_reads (number_in field.Six (gathered field.Six w))
+    (small_number field.Six (gathered field.Six w))
+field_reads field.Upper w = signed_reads (number_in field.Upper (gathered field.Upper w))
+    (small_number field.Upper (gathered field.Upper w))
+field_reads field.StackAdjust w = signed_reads (number_in field.StackAdjust (gathered field.StackAdjust w))
+    (small_number field.StackAdjust (gathered field.StackAdjust w))
+field_reads field.ShortShift w = signed_reads (number_in field.ShortShift (gathered field.ShortShift w))
+    (small_number field.ShortShift (gathered field.ShortShift w))
+field_reads field.ShortJump w = signed_reads (number_in field.ShortJump (gathered field.ShortJump w))
+    (small_number field.ShortJump (gathered field.ShortJump w))
+field_reads field.ShortBranch w = signed_reads (number_in field.ShortBranch (gathered field.ShortBranch w))
+    (small_number field.ShortBranch (gathered field.ShortBranch w))
+field_reads field.Word w = signed_reads (number_in field.Word (gathered field.Word w))
+    (small_number field.Word (gathered field.Word w))
+field_reads field.Half w = signed_reads (number_in field.Half (gathered field.Half w))
+    (small_number field.Half (gathered field.Half w))
+field_reads field.Byte w = signed_reads (number_in field.Byte (gathered field.Byte w))
+    (small_number field.Byte (gathered field.Byte w))
 
 -- the five bits of a register are its number
 pub five_bits : (w low : ℕ) → bits_at w low 5 < 32
@@ -130,7 +154,9 @@ slot_reads address w slot.Comma = refl
 slot_reads address w slot.Opening = refl
 slot_reads address w slot.Closing = refl
 slot_reads address w (slot.Register p) = rw (register_reads (bits_at w (low_of p) 5) (five_bits w (low_of p))) refl
-slot_reads address w (slot.RegisterBut p but) = rw (register_reads (bits_at w (low_of p) 5) (five_bits w (low_of p))) refl
-slot_reads address w (slot.ShortRegister p) = rw (register_reads (8 + bits_at w (low_of p) 3) (three_bits w (low_of p))) refl
+slot_reads address w (slot.RegisterBut p but) = rw (register_reads (bits_at w (low_of p) 5) (five_bits w (low_of p)))
+    refl
+slot_reads address w (slot.ShortRegister p) = rw (register_reads (8 + bits_at w (low_of p) 3)
+    (three_bits w (low_of p))) refl
 slot_reads address w (slot.Number f) = field_reads f w
 slot_reads address w (slot.Target f) = rw (field_reads f w) refl

@@ -1,10 +1,10 @@
 -- The text of a word: a line without a comment, its words and its tokens.
-use Rattle.std.proofs.Common.{◌≡◌, ℕ, ◌+◌, ◌^◌, ◌<◌, Bool, true, false, not, nat_eq, ◌&&◌, ◌||◌, List, [], ◌∷◌, ◌++◌, length, map, codes, None, refl, sym, ◌∙◌, ap, arith}
+use Rattle.std.proofs.Common.{◌≡◌, ℕ, ◌+◌, ◌^◌, ◌<◌, Bool, true, false, not, nat_eq, ◌&&◌, ◌||◌, List, [], ◌∷◌, ◌++◌}
+use Rattle.std.proofs.Common.{length, map, codes, None, refl, sym, ◌∙◌, ap, arith}
 use Rattle.std.specs.Prelude.{flat_map}
 use Rattle.std.specs.Fmt.{decimal}
 use Rattle.std.specs.List.{list_all}
 use Rattle.std.specs.Str.{bytes_eq}
-use Rattle.std.specs.Str.Lines.{lines}
 use Rattle.std.proofs.lemmas.Bool.{and_parts, and_from, and_right}
 use Rattle.std.proofs.lemmas.Fmt.{decimal_nonempty}
 use Rattle.std.proofs.lemmas.List.Folds.{list_all-append}
@@ -15,13 +15,16 @@ use Rattle.ibx_asm.specs.declared.operand.Signed.{Signed}
 use Rattle.ibx_asm.specs.declared.slot.Slot.{Slot}
 use Rattle.ibx_asm.specs.declared.slot.Slot.TheVariants as slot
 use Rattle.ibx_asm.specs.Denote.{label_of}
-use Rattle.ibx_asm.specs.Dis.{hex_digits, gathered, number_in, signed_text, number_text, register_text, slot_text, operands_text}
+use Rattle.ibx_asm.specs.Dis.{hex_digits, gathered, number_in, signed_text, number_text, register_text, slot_text}
+use Rattle.ibx_asm.specs.Dis.{operands_text}
 use Rattle.ibx_asm.specs.Operands.{registers, is_name, low_of}
 use Rattle.ibx_asm.specs.Text.{is_plain, tokens, without_comment}
 use Rattle.ibx_asm.proofs.DataLines.{below, at_below, fine_digits}
 use Rattle.ibx_asm.proofs.Decimals.{decimal_reads}
-use Rattle.ibx_asm.proofs.Shown.{is_fine, weaker, one_line, no_comment}
-use Rattle.ibx_asm.proofs.Slots.{is_mark_slot, slot_token, alternates, is_word, has_words, word_then, no_tokens, tokens_of_slots}
+use Rattle.ibx_asm.proofs.Shown.{is_fine, no_comment}
+use Rattle.ibx_asm.proofs.Slots.{is_mark_slot, slot_token, alternates, is_word, has_words, word_then, no_tokens}
+use Rattle.ibx_asm.proofs.Slots.{tokens_of_slots}
+use Rattle.ibx_asm.proofs.Standing.{is_late, weaker}
 use Rattle.ibx_asm.proofs.Values.{five_bits, three_bits, small_number}
 
 -- ---- the words of a text
@@ -109,23 +112,23 @@ slot_fine w (slot.Target f) = number_fine f w
 
 -- what a fine byte is
 plain_of : (x : ℕ) → is_fine x ≡ true → is_plain x ≡ true
-plain_of x h = (and_parts (is_plain x) (not (nat_eq x 10) && not (nat_eq x 35)) h).0
+plain_of x h = (and_parts (is_plain x) (is_late x && not (nat_eq x 35)) h).0
 
--- a byte that neither ends a line nor begins a comment
+-- a byte that has no part in the end of a line, and begins no comment
 abbrev is_quiet : ℕ → Bool
-is_quiet byte = not (nat_eq byte 10) && not (nat_eq byte 35)
+is_quiet byte = is_late byte && not (nat_eq byte 35)
 
 -- as each fine byte is
 quiet_of : (x : ℕ) → is_fine x ≡ true → is_quiet x ≡ true
 quiet_of x h = (and_parts (is_plain x) (is_quiet x) h).1
 
 -- it ends no line
-no_feed : (x : ℕ) → is_quiet x ≡ true → not (nat_eq x 10) ≡ true
-no_feed x h = (and_parts (not (nat_eq x 10)) (not (nat_eq x 35)) h).0
+late_of : (x : ℕ) → is_quiet x ≡ true → is_late x ≡ true
+late_of x h = (and_parts (is_late x) (not (nat_eq x 35)) h).0
 
 -- it begins no comment
 no_hash : (x : ℕ) → is_quiet x ≡ true → not (nat_eq x 35) ≡ true
-no_hash x h = (and_parts (not (nat_eq x 10)) (not (nat_eq x 35)) h).1
+no_hash x h = (and_parts (is_late x) (not (nat_eq x 35)) h).1
 
 -- a fine word is a word
 word_of : (xs : List ℕ) → is_fine_word xs ≡ true → is_word xs ≡ true
@@ -174,7 +177,8 @@ slot_quiet w (slot.Target f) = quiet_slot w (slot.Target f) refl
 slots_quiet : (w : ℕ) (slots : List Slot) → list_all is_quiet (flat_map (slot_text w) slots) ≡ true
 slots_quiet w [] = refl
 slots_quiet w (s ∷ slots) =
-    list_all-append is_quiet (slot_text w s) (flat_map (slot_text w) slots) ∙ rw (slot_quiet w s, slots_quiet w slots) refl
+    list_all-append is_quiet (slot_text w s) (flat_map (slot_text w) slots) ∙ rw (slot_quiet w s, slots_quiet w slots)
+    refl
 
 -- nor that of operands
 operands_quiet : (w : ℕ) (slots : List Slot) → list_all is_quiet (operands_text w slots) ≡ true
@@ -188,19 +192,16 @@ text_quiet w name slots h =
     list_all-append is_quiet name (operands_text w slots) ∙ rw (quiet_word name h, operands_quiet w slots) refl
 
 -- a text that begins with a word isn't empty
-some_text : (name rest : List ℕ) → is_fine_word name ≡ true → 0 < length (name ++ rest)
+pub some_text : (name rest : List ℕ) → is_fine_word name ≡ true → 0 < length (name ++ rest)
 some_text [] rest h = cc
 some_text (x ∷ xs) rest h = omega arith
 
--- the text of an instruction is one line
-pub text_line : (w : ℕ) (name : List ℕ) (slots : List Slot) → is_fine_word name ≡ true
-    → lines (name ++ operands_text w slots) ≡ (name ++ operands_text w slots) ∷ []
-text_line w name slots h =
-    let text : List ℕ = name ++ operands_text w slots in
-    let feeds = weaker is_quiet (λ b. not (nat_eq b 10)) text no_feed (text_quiet w name slots h) in
-    one_line text (some_text name (operands_text w slots) h) feeds
+-- the text of an instruction has no byte of a line's end
+pub text_late : (w : ℕ) (name : List ℕ) (slots : List Slot) → is_fine_word name ≡ true
+    → list_all is_late (name ++ operands_text w slots) ≡ true
+text_late w name slots h = weaker is_quiet is_late (name ++ operands_text w slots) late_of (text_quiet w name slots h)
 
--- without a comment
+-- and no comment
 pub text_uncommented : (w : ℕ) (name : List ℕ) (slots : List Slot) → is_fine_word name ≡ true
     → without_comment (name ++ operands_text w slots) ≡ name ++ operands_text w slots
 text_uncommented w name slots h =
@@ -222,7 +223,8 @@ text_tokens w name [] h a =
 text_tokens w name (s ∷ slots) h a =
     let rest : List ℕ = flat_map (slot_text w) (s ∷ slots) in
     word_then name (32 ∷ rest) (word_of name h) refl
-    ∙ ap (λ (ts : List (List ℕ)). name ∷ ts) (space_first rest ∙ tokens_of_slots w (s ∷ slots) a (words_of w (s ∷ slots)))
+    ∙ ap (λ (ts : List (List ℕ)). name ∷ ts) (space_first rest ∙ tokens_of_slots w (s ∷ slots) a
+    (words_of w (s ∷ slots)))
 
 -- no word is a colon
 no_colon : (xs : List ℕ) → is_word xs ≡ true → bytes_eq xs (codes ":") ≡ false

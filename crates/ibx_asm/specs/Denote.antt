@@ -1,5 +1,6 @@
 -- What a text assembles to, and which of its lines are refused: our own rules.
-use Rattle.std.specs.Prelude.{◌≡◌, ℕ, ◌+◌, Bool, true, false, not, ◌&&◌, ◌==◌, nat_lt, List, [], ◌∷◌, ◌++◌, length, drop, codes, Option, Some, None, is_some, Result, Ok, Err, bit_or, if◌then◌else◌}
+use Rattle.std.specs.Prelude.{◌≡◌, ℕ, ◌+◌, Bool, true, false, not, ◌&&◌, ◌==◌, nat_lt, List, [], ◌∷◌, ◌++◌, length}
+use Rattle.std.specs.Prelude.{drop, codes, Option, Some, None, is_some, Result, Ok, Err, bit_or, if◌then◌else◌}
 use Rattle.std.specs.List.{filter_map, fold, list_all, zip}
 use Rattle.std.specs.Option.{option_map, option_map_or}
 use Rattle.std.specs.Str.{bytes_eq}
@@ -78,7 +79,8 @@ labels_of text = filter_map defined text
 
 -- each slot holds the value of its operand, as far as the operand has one
 abbrev pub in_range : List Defined → ℕ → List (Slot × List ℕ) → Bool
-in_range labels address operands = list_all (λ o. option_map_or (holds o.0) (value_of labels address o.0 o.1) true) operands
+in_range labels address operands =
+    list_all (λ o. option_map_or (holds o.0) (value_of labels address o.0 o.1) true) operands
 
 -- each operand has a value: no label is missing
 abbrev pub known : List Defined → ℕ → List (Slot × List ℕ) → Bool
@@ -98,7 +100,8 @@ code_with labels address e operands = if not (in_range labels address operands)
 
 -- a line that defines a label has no code, and is refused where the label was defined before
 abbrev pub code_of_label : List Defined → ℕ → List ℕ → Result (List ℕ) AsmKind
-code_of_label labels number name = if option_map_or (λ label. nat_lt label.line number) (definition_of labels name) false
+code_of_label labels number name =
+    if option_map_or (λ label. nat_lt label.line number) (definition_of labels name) false
     then Err kind.Label
     else Ok []
 

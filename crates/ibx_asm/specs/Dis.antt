@@ -1,9 +1,12 @@
--- The text of an instruction: our own syntax, that of the assembler. Rows and fields: RISC-V Unprivileged ISA, 2, 16 and 24.
-use Rattle.std.specs.Prelude.{ℕ, zero, suc, ◌+◌, ◌-◌, ◌*◌, ◌/◌, ◌%◌, ◌^◌, Bool, true, false, not, ◌==◌, ◌&&◌, nat_le, List, [], ◌∷◌, ◌++◌, map, flat_map, codes, Option, Some, None, unwrap_or, if◌then◌else◌}
-use Rattle.std.specs.Fmt.{decimal, digit_glyph}
+-- The text of an instruction: our own syntax, that of the assembler.
+-- Rows and fields: RISC-V Unprivileged ISA, 2, 16 and 24.
+use Rattle.std.specs.Prelude.{ℕ, ◌+◌, ◌-◌, ◌*◌, ◌/◌, ◌%◌, ◌^◌, Bool, true, false, not, ◌==◌, ◌&&◌, nat_le}
+use Rattle.std.specs.Prelude.{List, [], ◌∷◌, ◌++◌, map, flat_map, codes, Option, Some, None, unwrap_or, if◌then◌else◌}
+use Rattle.std.specs.Fmt.{decimal}
 use Rattle.std.specs.List.{find, zip, slice_get}
 use Rattle.std.specs.Int.{bytes_low_first}
 use Rattle.std.specs.Option.{option_map}
+unfoldable pub use Rattle.ibx_digits.specs.Digits.{hex_digits}
 use Rattle.ibx_isa.specs.Lengths.{is_long}
 use Rattle.ibx_bits.specs.Bytes.{bits_at}
 use Rattle.ibx_decoder.specs.Compressed as compressed
@@ -48,11 +51,6 @@ unfoldable pub mnemonic_of : ℕ → Option (List ℕ × Encoding)
 mnemonic_of w = option_map (λ r. r.1) (find (λ r. suits w r.0) (zip patterns instructions))
 
 -- ---- operands
-
--- the lowest `width` hexadecimal digits, in lower case, the highest first
-unfoldable pub hex_digits : ℕ → ℕ → List ℕ
-hex_digits zero n = []
-hex_digits (suc k) n = digit_glyph false (n / 2 ^ (4 * k) % 16) ∷ hex_digits k n
 
 -- one part of a number, from its place
 abbrev pub taken_part : ℕ → ℕ × ℕ × ℕ → ℕ
@@ -114,7 +112,8 @@ is_other_fence w e = not (w == e.word) && is_fence e.form
 -- the text of a word with this mnemonic, or with none
 abbrev pub instruction_text : ℕ → Option (List ℕ × Encoding) → List ℕ
 instruction_text w None = data_text w
-instruction_text w (Some (name, e)) = if is_other_fence w e then data_text w else name ++ operands_text w (slots_of e.form)
+instruction_text w (Some (name, e)) =
+    if is_other_fence w e then data_text w else name ++ operands_text w (slots_of e.form)
 
 -- the text of a 32-bit word, or of a short halfword that is zero-extended
 unfoldable pub dis_of : ℕ → List ℕ

@@ -1,6 +1,7 @@
 -- The numbers among operands: which values a field holds, and at which bits of the instruction.
 -- 32-bit instructions: RISC-V Unprivileged ISA, 2.2 and 2.3; compressed ones: 16.2 to 16.5.
-use Rattle.std.specs.Prelude.{ℕ, ◌-◌, ◌*◌, ◌%◌, ◌^◌, Bool, true, false, not, ◌==◌, ◌&&◌, ◌||◌, nat_le, bit_or, List, [], ◌∷◌, map, if◌then◌else◌}
+use Rattle.std.specs.Prelude.{ℕ, ◌-◌, ◌*◌, ◌%◌, ◌^◌, Bool, true, false, not, ◌==◌, ◌&&◌, ◌||◌, nat_le, bit_or, List, []}
+use Rattle.std.specs.Prelude.{◌∷◌, map, if◌then◌else◌}
 use Rattle.ibx_bits.specs.Bytes.{bits_at}
 use Rattle.ibx_asm.specs.declared.fields.Field.{Field}
 use Rattle.ibx_asm.specs.declared.fields.Field.TheVariants as field

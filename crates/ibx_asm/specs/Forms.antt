@@ -1,4 +1,5 @@
--- The operands of each form of instruction, in the order in which they are written: our own syntax, after the usual RISC-V assembly.
+-- The operands of each form of instruction, in the order in which they are written: our own syntax, after the usual
+-- RISC-V assembly.
 use Rattle.std.specs.Prelude.{List, [], ◌∷◌}
 use Rattle.ibx_asm.specs.declared.fields.Field.TheVariants as field
 use Rattle.ibx_asm.specs.declared.slot.Form.{Form}

@@ -76,7 +76,11 @@ exceptions_of _ = []
 
 -- the words of a row, and with them its mnemonic
 unfoldable pub pattern_meant : Row → Pattern
-pattern_meant row = record { mask = mask_of row.3; matches = bit_and row.2 (mask_of row.3); unless = exceptions_of row.3 }
+pattern_meant row = record {
+  mask = mask_of row.3;
+  matches = bit_and row.2 (mask_of row.3);
+  unless = exceptions_of row.3;
+}
 
 -- a row as its words and its mnemonic
 abbrev pub both_meant : Row → Pattern × (List ℕ × Encoding)

@@ -1,5 +1,7 @@
--- The mnemonics beside the rows of the instruction set: each instruction's word with all its operands 0, its length and its form.
--- 32-bit instructions: RISC-V Unprivileged ISA, 24, and Privileged ISA, 3.3; compressed ones: 16.8. The directives are our own.
+-- The mnemonics beside the rows of the instruction set: each instruction's word with all its operands 0, its length and
+-- its form.
+-- 32-bit instructions: RISC-V Unprivileged ISA, 24, and Privileged ISA, 3.3; compressed ones: 16.8. The directives are
+-- our own.
 use Rattle.std.specs.Prelude.{ℕ, List, [], ◌∷◌, ◌++◌, codes, Option}
 use Rattle.std.specs.List.{find}
 use Rattle.std.specs.Option.{option_map}

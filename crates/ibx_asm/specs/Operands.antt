@@ -1,5 +1,6 @@
 -- What a token says as an operand: our own syntax, after the usual RISC-V assembly.
-use Rattle.std.specs.Prelude.{ℕ, ◌-◌, ◌*◌, ◌%◌, ◌^◌, Bool, true, false, not, ◌==◌, ◌&&◌, ◌||◌, nat_eq, nat_lt, nat_le, List, [], ◌∷◌, drop, codes, Option, Some, is_some, if◌then◌else◌}
+use Rattle.std.specs.Prelude.{ℕ, ◌-◌, ◌*◌, ◌%◌, ◌^◌, Bool, true, false, not, ◌==◌, ◌&&◌, ◌||◌, nat_eq, nat_lt, nat_le}
+use Rattle.std.specs.Prelude.{List, [], ◌∷◌, drop, codes, Option, Some, is_some, if◌then◌else◌}
 use Rattle.std.specs.List.{find, list_all, position, starts_with}
 use Rattle.std.specs.Option.{option_map}
 use Rattle.std.specs.Str.{bytes_eq}
@@ -38,7 +39,8 @@ signed_of token = if starts_with nat_eq token (codes "-")
 
 -- an ASCII letter, `.` or `_`, with which a name begins
 abbrev pub is_initial : ℕ → Bool
-is_initial byte = (nat_le 65 byte && nat_le byte 90) || (nat_le 97 byte && nat_le byte 122) || (byte == 46) || (byte == 95)
+is_initial byte =
+    (nat_le 65 byte && nat_le byte 90) || (nat_le 97 byte && nat_le byte 122) || (byte == 46) || (byte == 95)
 
 -- a byte of a name: one of these, or a digit
 abbrev pub is_name_byte : ℕ → Bool

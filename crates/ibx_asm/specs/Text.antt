@@ -18,7 +18,8 @@ is_plain byte = not (is_blank byte || is_mark byte)
 abbrev pub without_comment : List ℕ → List ℕ
 without_comment line = before_first (λ byte. byte == 35) line
 
--- a plain byte before a rest that has these tokens: it begins the rest's first token where that is a word which follows at once
+-- a plain byte before a rest that has these tokens: it begins the rest's first token where that is a word which follows
+-- at once
 abbrev pub joined : ℕ → List ℕ → List (List ℕ) → List (List ℕ)
 joined byte [] more = (byte ∷ []) ∷ more
 joined byte (next ∷ rest) more = if is_plain next then onto_first byte more else (byte ∷ []) ∷ more

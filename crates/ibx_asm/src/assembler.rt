@@ -8,7 +8,7 @@ use crate::line::{code_of, label_of, size_of};
 use crate::text::{first_line, without_comment};
 use std::alloc::{AllocError, Global};
 
-/// The byte address of the code's first line.
+// The byte address of the code's first line.
 const CODE_BASE: u64 = 0x10_0080;
 
 // The labels of a text, in the order of their definitions.
@@ -40,7 +40,8 @@ fn labels_of(alloc: Global, text: &[u8]) -> Result<Labels<'_>, AllocError>
 // The code of the lines of a text that has these labels.
 fn code_of_all(alloc: Global, text: &[u8], labels: &Labels) -> Result<Vec<u8>, AsmFault>
     requires { length text.now < 2 ^ 32 }
-    ensures { Assembles result (code_of_all labels.now (placed 1 code_base (lines text.now))) }
+    ensures value { Assembles result (code_of_all labels.now (placed 1 code_base (lines text.now))) }
+    ensures size { IfOk result (λ code. length code.items ≤ 4 * length text.now) }
 {
     let mut code = Vec::new(alloc);
     let mut address = CODE_BASE;
@@ -72,7 +73,9 @@ fn code_of_all(alloc: Global, text: &[u8], labels: &Labels) -> Result<Vec<u8>, A
 pub fn assemble(alloc: Global, text: &[u8]) -> Result<Vec<u8>, AsmFault>
     requires { length text.now < 2 ^ 32 }
     // The bytes that the text denotes, or the first line that is refused with its first kind; or memory ran out.
-    ensures { Assembles result (denoted text.now) }
+    ensures value { Assembles result (denoted text.now) }
+    // No line has more than four bytes of code.
+    ensures size { IfOk result (λ code. length code.items ≤ 4 * length text.now) }
 {
     let labels = labels_of(alloc, text)?;
     code_of_all(alloc, text, &labels)

@@ -1,41 +1,23 @@
-ghost use Rattle.std.specs.Prelude.{◌≡◌, ◌+◌, ◌^◌, ◌<◌, ◌≤◌, ◌∷◌, ◌++◌, [], false};
-ghost use Rattle.std.specs.Fmt.{digit_glyph};
+ghost use Rattle.std.specs.Prelude.{◌≡◌, ◌+◌, ◌^◌, ◌<◌, ◌≤◌, ◌++◌};
 ghost use Rattle.arrayvec.specs.ArrayString.{array_string_len};
 ghost use Rattle.ibx_asm.specs.Dis.{hex_digits, signed_text, number_in, number_text, register_text};
 
 use crate::fields::{Field, number_in};
 use crate::operand::{Signed, register_name};
 use arrayvec::ArrayString;
-use itoa::Buffer;
+use ibx_digits::Digits;
 
 /// The text of an instruction, which has at most 40 bytes.
 pub(crate) type Line = ArrayString<40>;
 
-// Appends a hexadecimal digit.
-fn push_digit(text: &mut Line, digit: u8)
-    requires digit { digit < 16 }
-    requires room { array_string_len text.old < 40 }
-    ensures bytes { text.new.bytes ≡ text.old.bytes ++ digit_glyph false digit ∷ [] }
-    ensures len { array_string_len text.new ≡ array_string_len text.old + 1 }
-{
-    if digit < 10 {
-        text.push(char::from(b'0' + digit));
-    } else {
-        text.push(char::from(b'a' + (digit - 10)));
-    }
-}
-
 /// Appends the lowest `width` hexadecimal digits of a number.
-#[tactic(auto, using(crate::proofs::DigitLemmas::push_hex_digit), unfolding(crate::specs::Dis::hex_digits))]
 pub(crate) fn push_hex(text: &mut Line, number: u32, width: u32)
     requires width { width ≤ 8 }
     requires room { array_string_len text.old + width ≤ 40 }
     ensures bytes { text.new.bytes ≡ text.old.bytes ++ hex_digits width number }
     ensures len { array_string_len text.new ≡ array_string_len text.old + width }
 {
-    for place in (0..width).rev() {
-        push_digit(text, ((number >> (4 * place)) % 16) as u8);
-    }
+    text.push_str(Digits::hexadecimal(number, width).as_str());
 }
 
 // Appends a number with its sign.
@@ -49,7 +31,7 @@ fn push_signed(text: &mut Line, number: Signed)
     if number.minus {
         text.push_str("-");
     }
-    text.push_str(Buffer::new().format(number.size as u32));
+    text.push_str(Digits::decimal(number.size).as_str());
 }
 
 /// Appends the number that a field's bits stand for.

@@ -1,9 +1,11 @@
-ghost use Rattle.std.specs.Prelude.{◌≡◌, ◌+◌, ◌<◌, ◌≤◌, ◌++◌, ◌==◌, ◌||◌, bit_and, not, is_some, length, map, sum_by, Some, IfSome, Ok};
+ghost use Rattle.std.specs.Prelude.{◌≡◌, ◌+◌, ◌<◌, ◌≤◌, ◌++◌, ◌==◌, ◌||◌, bit_and, not, is_some, length, map, sum_by};
+ghost use Rattle.std.specs.Prelude.{Some, IfSome, Ok};
 ghost use Rattle.std.specs.List.{find, list_all};
 ghost use Rattle.std.specs.Option.{option_map};
 ghost use Rattle.arrayvec.specs.ArrayString.{array_string_len};
 ghost use Rattle.ibx_isa.specs.Lengths.{IsWordOrHalf};
-ghost use Rattle.ibx_asm.specs.Dis.{suits, mnemonic_of, slot_text, operands_text, data_text, instruction_text, dis_of, word_bytes};
+ghost use Rattle.ibx_asm.specs.Dis.{suits, mnemonic_of, slot_text, operands_text, data_text, instruction_text, dis_of};
+ghost use Rattle.ibx_asm.specs.Dis.{word_bytes};
 ghost use Rattle.ibx_asm.specs.Denote.{denoted};
 ghost use Rattle.ibx_decoder.specs.Compressed.{expand_of};
 ghost use Rattle.ibx_decoder.specs.Rows.{decode_of};
@@ -45,7 +47,8 @@ fn row_suiting(rows: &[Row], word: u32) -> Option<&Row>
 }
 
 fn mnemonic_in(rows: &[Row], word: u32) -> Option<&Row>
-    ensures { option_map (λ row. row_meant row.now) result ≡ option_map (λ r. r.1) (find (λ r. suits word r.0) (map both_meant rows.now)) }
+    ensures { option_map (λ row. row_meant row.now) result
+        ≡ option_map (λ r. r.1) (find (λ r. suits word r.0) (map both_meant rows.now)) }
 {
     row_suiting(rows, word)
 }
@@ -138,10 +141,11 @@ fn shown(word: u32) -> Line
 
 /// The text of an instruction, in the syntax of the assembler. Our own, after the usual RISC-V assembly.
 ///
-/// It is the mnemonic of the row that the word fits, and after a space the operands, parted by `, `. Immediates, offsets
-/// of targets, amounts of shifts and numbers in place of registers are decimal; the upper 20 bits of LUI and AUIPC
-/// have 5 hexadecimal digits after `0x`, and the address of a CSR has 3. Where no row fits, and for a FENCE other than
-/// `fence` and `fence.i`, it is `.word 0x` and 8 hexadecimal digits for a word, and `.half 0x` and 4 for a halfword.
+/// It is the mnemonic of the row that the word fits, and after a space the operands, parted by `, `. Immediates,
+/// offsets of targets, amounts of shifts and numbers in place of registers are decimal; the upper 20 bits of LUI and
+/// AUIPC have 5 hexadecimal digits after `0x`, and the address of a CSR has 3. Where no row fits, and for a FENCE other
+/// than `fence` and `fence.i`, it is `.word 0x` and 8 hexadecimal digits for a word, and `.half 0x` and 4 for a
+/// halfword.
 #[tactic(auto, using(crate::proofs::Decoded::has_mnemonic))]
 pub fn dis(word: u32) -> ArrayString<40>
     requires { IsWordOrHalf word }

@@ -2,7 +2,8 @@ ghost use Rattle.std.specs.Prelude.{◌≡◌, ◌≤◌, IfOk, IfSome, drop};
 ghost use Rattle.std.specs.List.{fold, zip};
 ghost use Rattle.std.specs.Option.{option_map};
 ghost use Rattle.ibx_asm.specs.Held.{coded};
-ghost use Rattle.ibx_asm.specs.Denote.{are_operands, instruction_of, size_of, label_of, in_range, known, with_operand, code_with, code_of_label, code_of};
+ghost use Rattle.ibx_asm.specs.Denote.{are_operands, instruction_of, size_of, label_of, in_range, known, with_operand};
+ghost use Rattle.ibx_asm.specs.Denote.{code_with, code_of_label, code_of};
 ghost use Rattle.ibx_asm.specs.Forms.{slots_of};
 ghost use Rattle.ibx_asm.specs.Text.{tokens};
 
@@ -129,7 +130,8 @@ fn code_with(
     labels: &Labels,
     address: u64,
 ) -> Result<Code, AsmKind>
-    ensures value { coded result ≡ code_with labels.now address encoding (zip (slots_of encoding.form) (tokens text.now)) }
+    ensures value { coded result
+        ≡ code_with labels.now address encoding (zip (slots_of encoding.form) (tokens text.now)) }
     ensures size { IfOk result (λ code. code.size ≡ encoding.size) }
 {
     let operands = operands(
@@ -170,7 +172,8 @@ pub(crate) fn code_of(
     address: u64,
     labels: &Labels,
 ) -> Result<Code, AsmKind>
-    ensures value { coded result ≡ code_of labels.now (record { number = number; address = address; line = tokens text.now }) }
+    ensures value { coded result
+        ≡ code_of labels.now (record { number = number; address = address; line = tokens text.now }) }
     ensures size { IfOk result (λ code. code.size ≡ size_of (tokens text.now)) }
     ensures short { IfOk result (λ code. code.size ≤ 4) }
 {

@@ -7,6 +7,7 @@ use Rattle.ibx_asm.proofs.disassembler.push_operands.Given as goal
 
 abbrev pub invariant-loop-slot : goal.invariant-loop-slot
 invariant-loop-slot l = record {
-  bytes : l.text.bytes ++ flat_map (slot_text l.word) (drop l.slot-index l.slots) ≡ l.fn.text.bytes ++ operands_text l.word l.slots;
+  bytes : l.text.bytes ++ flat_map (slot_text l.word) (drop l.slot-index l.slots) ≡ l.fn.text.bytes ++ operands_text
+      l.word l.slots;
   room : array_string_len l.text + sum_by room_of (drop l.slot-index l.slots) ≤ 40;
 }

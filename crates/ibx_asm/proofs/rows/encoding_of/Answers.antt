@@ -9,4 +9,5 @@ unfolding encoding_of
 returns-clause-value c = c.encoding_in.ensures
 
 pub returns-clause-short : goal.returns-clause-short
-returns-clause-short c = subst (λ (o : Option Encoding). IfSome o (λ e. e.size ≤ 4)) (sym (returns-clause-value c)) (is_short c.args.name.now)
+returns-clause-short c = subst (λ (o : Option Encoding). IfSome o (λ e. e.size ≤ 4)) (sym (returns-clause-value c))
+    (is_short c.args.name.now)

@@ -4,4 +4,5 @@ use Rattle.std.proofs.lemmas.Iterator.Search.{position_from_yields_List}
 use Rattle.ibx_asm.proofs.text.line_end.Goals as goal
 
 pub returns-clause-place : goal.returns-clause-place
-returns-clause-place c = position_from_yields_List (λ byte. nat_eq byte 10) _ _ _ c.position.ensures.ran (YieldsList-from_slice c.args.text.now cc) (λ x b q k. search (rules, tests))
+returns-clause-place c = position_from_yields_List (λ byte. nat_eq byte 10) _ _ _ c.position.ensures.ran
+    (YieldsList-from_slice c.args.text.now cc) (λ x b q k. search (rules, tests))

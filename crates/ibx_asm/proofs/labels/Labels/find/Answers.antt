@@ -12,4 +12,6 @@ copied_now None = refl
 copied_now (Some label) = refl
 
 pub returns : goal.returns
-returns c = ap (option_map meant) (c.copied.ensures ∙ copied_now c.first_named.result ∙ c.first_named.ensures) ∙ find_mapped meant (λ label. bytes_eq label.name c.args.name.now) c.as_slice.result.now ∙ ap (λ labels. definition_of labels c.args.name.now) (ap (map meant) c.as_slice.ensures.value ∙ c.self.view_is)
+returns c = ap (option_map meant) (c.copied.ensures ∙ copied_now c.first_named.result ∙ c.first_named.ensures) ∙
+    find_mapped meant (λ label. bytes_eq label.name c.args.name.now) c.as_slice.result.now ∙ ap
+    (λ labels. definition_of labels c.args.name.now) (ap (map meant) c.as_slice.ensures.value ∙ c.self.view_is)
