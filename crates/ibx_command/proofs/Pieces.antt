@@ -8,11 +8,13 @@ none_first : pieces_of [] ≡ []
 unfolding pieces_behind
 none_first = refl
 
-file_first : (word : List ℕ) (more : List (List ℕ)) → is_dashed word ≡ false → pieces_of (word ∷ more) ≡ FilePiece word ∷ pieces_of more
+file_first : (word : List ℕ) (more : List (List ℕ)) → is_dashed word ≡ false → pieces_of (word ∷ more) ≡ FilePiece word
+    ∷ pieces_of more
 unfolding pieces_behind
 file_first word more h = rw h
 
-setting_first : (word value : List ℕ) (more : List (List ℕ)) → is_dashed word ≡ true → pieces_of (word ∷ value ∷ more) ≡ SettingPiece word value ∷ pieces_of more
+setting_first : (word value : List ℕ) (more : List (List ℕ)) → is_dashed word ≡ true → pieces_of (word ∷ value ∷ more)
+    ≡ SettingPiece word value ∷ pieces_of more
 unfolding pieces_behind
 setting_first word value more h = rw h
 
@@ -25,17 +27,24 @@ pub nothing_read : {X : Type 0} (f : X → List ℕ) (words : List X) → length
 nothing_read f [] e = none_first
 nothing_read f (word ∷ more) e = absurd (omega arith)
 
-pub file_read : {X : Type 0} (f : X → List ℕ) (words : List X) (word : X) (more : List X) → words ≡ word ∷ more → is_dashed (f word) ≡ false → pieces_of (map f words) ≡ FilePiece (f word) ∷ pieces_of (map f more)
+pub file_read : {X : Type 0} (f : X → List ℕ) (words : List X) (word : X) (more : List X) → words ≡ word ∷ more →
+    is_dashed (f word) ≡ false → pieces_of (map f words) ≡ FilePiece (f word) ∷ pieces_of (map f more)
 file_read f words word more e h = ap (λ ws. pieces_of (map f ws)) e ∙ file_first (f word) (map f more) h
 
-pub setting_read : {X : Type 0} (f : X → List ℕ) (words : List X) (word : X) (more : List X) (value : X) (later : List X) → words ≡ word ∷ more → more ≡ value ∷ later → is_dashed (f word) ≡ true → pieces_of (map f words) ≡ SettingPiece (f word) (f value) ∷ pieces_of (map f later)
-setting_read f words word more value later e d h = ap (λ ws. pieces_of (map f ws)) (e ∙ ap (λ ws. word ∷ ws) d) ∙ setting_first (f word) (f value) (map f later) h
+pub setting_read : {X : Type 0} (f : X → List ℕ) (words : List X) (word : X) (more : List X) (value : X)
+    (later : List X) → words ≡ word ∷ more → more ≡ value ∷ later → is_dashed (f word) ≡ true → pieces_of (map f words)
+    ≡ SettingPiece (f word) (f value) ∷ pieces_of (map f later)
+setting_read f words word more value later e d h = ap (λ ws. pieces_of (map f ws)) (e ∙ ap (λ ws. word ∷ ws) d) ∙
+    setting_first (f word) (f value) (map f later) h
 
-pub bare_read : {X : Type 0} (f : X → List ℕ) (words : List X) (word : X) (more : List X) → words ≡ word ∷ more → length more ≡ 0 → is_dashed (f word) ≡ true → pieces_of (map f words) ≡ BarePiece ∷ pieces_of (map f more)
-bare_read f words word [] e d h = ap (λ ws. pieces_of (map f ws)) e ∙ bare_first (f word) h ∙ ap (λ ps. BarePiece ∷ ps) (sym none_first)
+pub bare_read : {X : Type 0} (f : X → List ℕ) (words : List X) (word : X) (more : List X) → words ≡ word ∷ more →
+    length more ≡ 0 → is_dashed (f word) ≡ true → pieces_of (map f words) ≡ BarePiece ∷ pieces_of (map f more)
+bare_read f words word [] e d h = ap (λ ws. pieces_of (map f ws)) e ∙ bare_first (f word) h ∙ ap (λ ps. BarePiece ∷ ps)
+    (sym none_first)
 bare_read f words word (value ∷ later) e d h = absurd (omega arith)
 
 -- whether a name is among texts
-pub listed_text : {X : Type 0} (f : X → List ℕ) (name : List ℕ) (xs : List X) → list_any (λ known. bytes_eq known name) (map f xs) ≡ list_any (λ x. bytes_eq (f x) name) xs
+pub listed_text : {X : Type 0} (f : X → List ℕ) (name : List ℕ) (xs : List X) → list_any (λ known. bytes_eq known name)
+    (map f xs) ≡ list_any (λ x. bytes_eq (f x) name) xs
 listed_text f name [] = refl
 listed_text f name (x ∷ xs) = ap (λ b. bytes_eq (f x) name || b) (listed_text f name xs)

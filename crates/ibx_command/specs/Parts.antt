@@ -60,3 +60,10 @@ abbrev pub only : List (List ℕ) → Option (List ℕ)
 only [] = None
 only (word ∷ []) = Some word
 only (word ∷ another ∷ more) = None
+
+-- the two words of a list, none where it has fewer or more
+unfoldable pub both : List (List ℕ) → Option (List ℕ × List ℕ)
+both [] = None
+both (first ∷ []) = None
+both (first ∷ second ∷ []) = Some (first, second)
+both (first ∷ second ∷ third ∷ more) = None

@@ -6,7 +6,7 @@ mod numbers;
 mod options;
 mod parts;
 
-pub use command::{Command, Inject, Run, read_words};
+pub use command::{Assemble, Command, Disassemble, Generate, Inject, Run, Twin, read_words};
 pub use options::Options;
 
 #[cfg(test)]

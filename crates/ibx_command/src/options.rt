@@ -79,8 +79,9 @@ fn checked_ram(ram: Ram) -> Option<Ram>
     if ram.is_valid() { Some(ram) } else { None }
 }
 
+/// The RAM that the options give. None where it can't be one.
 #[tactic(auto, unfolding(crate::specs::Options::ram_in))]
-fn ram_in(words: &[String]) -> Option<Ram>
+pub(crate) fn ram_in(words: &[String]) -> Option<Ram>
     ensures value { result ≡ ram_in (pieces_of (map string_bytes words.now)) }
     ensures valid { IfSome result IsRamRange }
 {

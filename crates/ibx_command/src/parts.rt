@@ -2,7 +2,7 @@ ghost use Rattle.std.specs.Option.{option_map};
 ghost use Rattle.std.specs.List.{list_any};
 ghost use Rattle.std.specs.Str.{bytes_eq};
 ghost use Rattle.std.specs.Prelude.{nat_lt, ◌≡◌, ◌<◌, ℕ, List, [], ◌∷◌, map, length, string_bytes, MatchOption, IfSome};
-ghost use Rattle.ibx_command.specs.Parts.{is_dashed, pieces_of, piece_fits, all_fit};
+ghost use Rattle.ibx_command.specs.Parts.{is_dashed, pieces_of, piece_fits, all_fit, files_of, both};
 ghost use Rattle.ibx_command.specs.Found.{piece_of, text_for, texts_for, IsFoundIn};
 
 /// What one or two words stand for.
@@ -44,7 +44,7 @@ fn is_listed(names: &[&str], name: &str) -> bool
     names.iter().any(|known| *known == name)
 }
 
-/// The first part of the words after a command, and the words behind it.
+// The first part of the words after a command, and the words behind it.
 fn first_part<'w>(words: &'w [String]) -> Option<(Part<'w>, &'w [String])>
     ensures parts { MatchOption result (pieces_of (map string_bytes words.now) ≡ [])
         (λ p. pieces_of (map string_bytes words.now) ≡ piece_of p.0 ∷ pieces_of (map string_bytes p.1.now)) }
@@ -62,7 +62,7 @@ fn first_part<'w>(words: &'w [String]) -> Option<(Part<'w>, &'w [String])>
 }
 
 impl<'w> Part<'w> {
-    /// Whether a command with options of these names takes this part.
+    // Whether a command with options of these names takes this part.
     #[tactic(auto, unfolding(crate::specs::Parts::piece_fits), using(crate::proofs::Pieces::listed_text))]
     fn fits(self, names: &[&str]) -> bool
         ensures { result ≡ piece_fits (map (λ name. name.now) names.now) (piece_of self.entry) }
@@ -74,7 +74,7 @@ impl<'w> Part<'w> {
         }
     }
 
-    /// The text that this part gives to what is looked for.
+    // The text that this part gives to what is looked for.
     fn text_for(self, wanted: Wanted<'_>) -> Option<&'w str>
         ensures { option_map (λ text. text.now) result ≡ text_for wanted.entry (piece_of self.entry) }
     {
@@ -129,4 +129,32 @@ pub(crate) fn find<'w>(words: &'w [String], wanted: Wanted<'_>) -> Found<'w>
         }
     }
     Found::Nothing
+}
+
+// The first file among words, and the words behind it.
+fn next_file<'w>(words: &'w [String]) -> Option<(&'w str, &'w [String])>
+    ensures { MatchOption result (files_of (pieces_of (map string_bytes words.now)) ≡ [])
+        (λ p. files_of (pieces_of (map string_bytes words.now)) ≡ p.0.now ∷ files_of (pieces_of (map string_bytes p.1.now))) }
+{
+    let mut rest = words;
+    while let Some((part, more)) = first_part(rest) {
+        rest = more;
+        if let Some(file) = part.text_for(Wanted::AnyFile) {
+            return Some((file, rest));
+        }
+    }
+    None
+}
+
+/// The two files among words. None where there are fewer or more.
+#[tactic(auto, unfolding(crate::specs::Parts::both))]
+pub(crate) fn two_files<'w>(words: &'w [String]) -> Option<(&'w str, &'w str)>
+    ensures { option_map (λ p. (p.0.now, p.1.now)) result ≡ both (files_of (pieces_of (map string_bytes words.now))) }
+{
+    let (first, behind) = next_file(words)?;
+    let (second, behind) = next_file(behind)?;
+    match next_file(behind) {
+        None => Some((first, second)),
+        Some(_) => None,
+    }
 }

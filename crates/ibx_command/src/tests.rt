@@ -1,4 +1,4 @@
-use crate::{Command, Inject, Options, Run, read_words};
+use crate::{Assemble, Command, Disassemble, Generate, Inject, Options, Run, Twin, read_words};
 use ibx_elf::Ram;
 use ibx_isa::MulKind;
 use std::alloc::Global;
@@ -47,6 +47,43 @@ fn inject<'w>(
             ram: Ram { base, size },
             mul,
         },
+    })
+}
+
+fn twin<'w>(first: &'w str, second: &'w str, plan: Option<&'w str>, cycles: u64) -> Command<'w> {
+    Command::Twin(Twin {
+        first,
+        second,
+        plan,
+        options: Options {
+            cycles,
+            ram: Ram {
+                base: BASE,
+                size: SIZE,
+            },
+            mul: MulKind::Fast,
+        },
+    })
+}
+
+fn generate(seed: u32, cycles: u64, mul: MulKind) -> Command<'static> {
+    Command::Generate(Generate {
+        seed,
+        options: Options {
+            cycles,
+            ram: Ram {
+                base: BASE,
+                size: SIZE,
+            },
+            mul,
+        },
+    })
+}
+
+fn disassemble(file: &str, base: u32, size: u32) -> Command<'_> {
+    Command::Disassemble(Disassemble {
+        file,
+        ram: Ram { base, size },
     })
 }
 
@@ -113,6 +150,24 @@ fn reads_what_fits(rt: HostRuntime) -> Result<(), Fail> {
             "inject a --mul fast --ram-size 4096 --plan p --ram-base 0x21000",
             inject("a", "p", CYCLES, MulKind::Fast, 0x0002_1000, 4_096),
         ),
+        ("twin a b", twin("a", "b", None, CYCLES)),
+        ("twin b a", twin("b", "a", None, CYCLES)),
+        ("twin a --plan p --cycles 9 a", twin("a", "a", Some("p"), 9)),
+        ("gen 0", generate(0, CYCLES, MulKind::Fast)),
+        (
+            "gen --mul slow 0xffffffff --cycles 5",
+            generate(0xFFFF_FFFF, 5, MulKind::Slow),
+        ),
+        (
+            "gen 4294967295",
+            generate(4_294_967_295, CYCLES, MulKind::Fast),
+        ),
+        ("asm a.s", Command::Assemble(Assemble { file: "a.s" })),
+        ("dis a", disassemble("a", BASE, SIZE)),
+        (
+            "dis --ram-size 4096 a --ram-base 0x21000",
+            disassemble("a", 0x0002_1000, 4_096),
+        ),
     ];
     for (line, command) in rows {
         let words = words_of(rt.alloc(), line)?;
@@ -174,6 +229,30 @@ fn refuses_what_does_not_fit(rt: HostRuntime) -> Result<(), Fail> {
         "inject a --plan p --cycles 0",
         "inject a --plan p --ram-base 0",
         "inject a --plan p --seed 1",
+        "twin",
+        "twin a",
+        "twin a b c",
+        "twin a b --plan p --plan p",
+        "twin a b --mul quick",
+        "twin a --plan p",
+        "gen",
+        "gen a",
+        "gen 4294967296",
+        "gen 0x100000000",
+        "gen -1",
+        "gen 1 2",
+        "gen 1 --plan p",
+        "gen 1 --ram-size 4096",
+        "gen 1 --cycles 0",
+        "asm",
+        "asm a b",
+        "asm a --cycles 5",
+        "asm a --ram-base 0x80000000",
+        "dis",
+        "dis a b",
+        "dis a --cycles 5",
+        "dis a --plan p",
+        "dis a --ram-size 4095",
     ];
     for line in lines {
         let words = words_of(rt.alloc(), line)?;
