@@ -8,19 +8,22 @@ use disk::DiskFiles;
 use ibx_base::Status;
 use ibx_top::ibex;
 use std::env;
+use std::io::ErrorKind;
 use std::process::ExitCode;
 use streams::Stream;
 
-/// The status where the system's call for the command words failed.
+// The status where the system's call for the command words failed.
 const NO_WORDS: u8 = 13;
 
-/// The status where there was no memory for the command words.
+// The status where there was no memory for the command words.
 const NO_MEMORY: u8 = 7;
 
 fn main(rt: HostRuntime) -> ExitCode {
     let alloc = rt.alloc();
-    let Ok(args) = env::args(&rt) else {
-        return ExitCode::from(NO_WORDS);
+    let args = match env::args(&rt) {
+        Ok(args) => args,
+        Err(error) if error.kind() == ErrorKind::OutOfMemory => return ExitCode::from(NO_MEMORY),
+        Err(_) => return ExitCode::from(NO_WORDS),
     };
     let Ok(words) = args.skip(1).collect::<Vec<String>>(alloc) else {
         return ExitCode::from(NO_MEMORY);

@@ -1,5 +1,6 @@
 -- A text written in parts.
-use Rattle.std.proofs.Common.{◌≡◌, ℕ, ◌+◌, List, [], ◌++◌, Option, Some, None, length, take, refl, sym, ap, ◌∙◌, arith, append_assoc}
+use Rattle.std.proofs.Common.{◌≡◌, ℕ, ◌+◌, List, [], ◌++◌, Option, Some, None, length, take, refl, sym, ap, ◌∙◌, arith}
+use Rattle.std.proofs.Common.{append_assoc}
 use Rattle.std.proofs.Math.Seq.{take-append-add}
 use Rattle.std.proofs.lemmas.List.{take-append-le, length-append, append-nil}
 use Rattle.std.specs.Prelude.{Result, Ok, Err, OnErr}
@@ -15,7 +16,8 @@ pub none_more : (taken : Option (List ℕ)) → taken ≡ with_more taken []
 none_more None = refl
 none_more (Some bytes) = ap Some (sym (append-nil bytes))
 
-more_twice : (taken : Option (List ℕ)) (first second : List ℕ) → with_more (with_more taken first) second ≡ with_more taken (first ++ second)
+more_twice : (taken : Option (List ℕ)) (first second : List ℕ) → with_more (with_more taken first) second ≡ with_more
+    taken (first ++ second)
 more_twice None first second = refl
 more_twice (Some bytes) first second = ap Some (append_assoc bytes first second)
 
@@ -29,7 +31,8 @@ pub begun : (before : Option (List ℕ)) (whole : List ℕ) → SoFar before bef
 begun before whole = record { gained = []; taken = none_more before; text = refl }
 
 -- a piece more
-pub more : {before now after : Option (List ℕ)} {whole : List ℕ} (piece rest : List ℕ) → SoFar before now (piece ++ rest) whole → after ≡ with_more now piece → SoFar before after rest whole
+pub more : {before now after : Option (List ℕ)} {whole : List ℕ} (piece rest : List ℕ) → SoFar before now
+    (piece ++ rest) whole → after ≡ with_more now piece → SoFar before after rest whole
 more {before} {now} {after} {whole} piece rest so_far wrote = record {
   gained = so_far.gained ++ piece;
   taken = wrote ∙ ap (λ (t : Option (List ℕ)). with_more t piece) so_far.taken ∙ more_twice before so_far.gained piece;
@@ -37,7 +40,8 @@ more {before} {now} {after} {whole} piece rest so_far wrote = record {
 }
 
 -- the last piece
-pub last : {before now after : Option (List ℕ)} {piece whole : List ℕ} → SoFar before now piece whole → after ≡ with_more now piece → after ≡ with_more before whole
+pub last : {before now after : Option (List ℕ)} {piece whole : List ℕ} → SoFar before now piece whole → after ≡
+    with_more now piece → after ≡ with_more before whole
 last {before} {now} {after} {piece} {whole} so_far wrote =
     wrote ∙ ap (λ (t : Option (List ℕ)). with_more t piece) so_far.taken ∙ more_twice before so_far.gained piece
     ∙ ap (with_more before) so_far.text
@@ -47,7 +51,8 @@ pub done : {before now : Option (List ℕ)} {whole : List ℕ} → SoFar before 
 done {before} {now} {whole} so_far = so_far.taken ∙ ap (with_more before) (sym (append-nil so_far.gained) ∙ so_far.text)
 
 -- a piece that was cut short
-pub cut : {before now after : Option (List ℕ)} {whole : List ℕ} (piece rest : List ℕ) → SoFar before now (piece ++ rest) whole → TookPrefix now piece after → TookPrefix before whole after
+pub cut : {before now after : Option (List ℕ)} {whole : List ℕ} (piece rest : List ℕ) → SoFar before now
+    (piece ++ rest) whole → TookPrefix now piece after → TookPrefix before whole after
 cut {before} {now} {after} {whole} piece rest so_far (n, (within, took)) =
     let gained : List ℕ = so_far.gained in
     let front : gained ++ take n piece ≡ take (length gained + n) whole =
@@ -57,26 +62,39 @@ cut {before} {now} {after} {whole} piece rest so_far (n, (within, took)) =
       length gained + n,
       (
         omega (arith, within, ap length so_far.text, length-append gained (piece ++ rest), length-append piece rest),
-        took ∙ ap (λ (t : Option (List ℕ)). with_more t (take n piece)) so_far.taken ∙ more_twice before gained (take n piece)
+        took ∙ ap (λ (t : Option (List ℕ)). with_more t (take n piece)) so_far.taken ∙ more_twice before gained
+            (take n piece)
             ∙ ap (with_more before) front,
       ),
     )
 
 -- the last piece, cut short
-pub cut_last : {before now after : Option (List ℕ)} {piece whole : List ℕ} → SoFar before now piece whole → TookPrefix now piece after → TookPrefix before whole after
+pub cut_last : {before now after : Option (List ℕ)} {piece whole : List ℕ} → SoFar before now piece whole → TookPrefix
+    now piece after → TookPrefix before whole after
 cut_last {before} {now} {after} {piece} {whole} so_far took =
-    cut piece [] (record { gained = so_far.gained; taken = so_far.taken; text = ap (λ (l : List ℕ). so_far.gained ++ l) (append-nil piece) ∙ so_far.text }) took
+    cut piece [] (record {
+      gained = so_far.gained;
+      taken = so_far.taken;
+      text = ap (λ (l : List ℕ). so_far.gained ++ l)
+          (append-nil piece) ∙ so_far.text;
+    }) took
 
 -- two pieces, of which the second is cut short
-pub cut_back : (before one after : Option (List ℕ)) (a b : List ℕ) → one ≡ with_more before a → TookPrefix one b after → TookPrefix before (a ++ b) after
+pub cut_back : (before one after : Option (List ℕ)) (a b : List ℕ) → one ≡ with_more before a → TookPrefix one b after
+    → TookPrefix before (a ++ b) after
 cut_back before one after a b first took = cut_last (more a b (begun before (a ++ b)) first) took
 
 -- three pieces, of which the second is cut short
-pub cut_second : (before one after : Option (List ℕ)) (a b c : List ℕ) → one ≡ with_more before a → TookPrefix one b after → TookPrefix before (a ++ b ++ c) after
+pub cut_second : (before one after : Option (List ℕ)) (a b c : List ℕ) → one ≡ with_more before a → TookPrefix one b
+    after → TookPrefix before (a ++ b ++ c) after
 cut_second before one after a b c first took =
-    cut b c (more a (b ++ c) (record { gained = []; taken = none_more before; text = sym (append_assoc a b c) }) first) took
+    cut b c (more a (b ++ c) (record { gained = []; taken = none_more before; text = sym (append_assoc a b c) }) first)
+    took
 
 -- and the third
-pub cut_third : (before one two after : Option (List ℕ)) (a b c : List ℕ) → one ≡ with_more before a → two ≡ with_more one b → TookPrefix two c after → TookPrefix before (a ++ b ++ c) after
+pub cut_third : (before one two after : Option (List ℕ)) (a b c : List ℕ) → one ≡ with_more before a → two ≡ with_more
+    one b → TookPrefix two c after → TookPrefix before (a ++ b ++ c) after
 cut_third before one two after a b c first second took =
-    cut_last (more b c (more a (b ++ c) (record { gained = []; taken = none_more before; text = sym (append_assoc a b c) }) first) second) took
+    cut_last (more b c
+    (more a (b ++ c) (record { gained = []; taken = none_more before; text = sym (append_assoc a b c) }) first)
+    second) took

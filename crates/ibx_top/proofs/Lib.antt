@@ -1,9 +1,13 @@
 pub mod Gains
 pub mod Systems
+pub mod Assembled
 pub mod Answers
 pub mod Outcomes
 pub mod Drives
 pub mod Seals
+pub mod Sums
 pub mod TimedStories
 pub mod PlanWords
 pub mod TwinTimes
+pub mod Twins
+pub mod TwinRuns

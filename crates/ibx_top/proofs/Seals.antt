@@ -18,8 +18,10 @@ no_fields s = refl
 pub field_more : (s : State) (n : ℕ) → n < 87 → (sum_to s n + slice_index (fields s) n) % 2 ^ 64 ≡ sum_to s (n + 1)
 unfolding fields
 field_more s n within =
-    let more : sum (take (n + 1) (fields s)) ≡ sum (take n (fields s)) + slice_index (fields s) n = sum_by_more (λ x. x) (fields s) n 0 within in
-    let split : (sum (take n (fields s)) % 2 ^ 64 + slice_index (fields s) n) % 2 ^ 64 ≡ (sum (take n (fields s)) + slice_index (fields s) n) % 2 ^ 64 = omega arith in
+    let more : sum (take (n + 1) (fields s)) ≡ sum (take n (fields s)) + slice_index (fields s) n = sum_by_more
+    (λ x. x) (fields s) n 0 within in
+    let split : (sum (take n (fields s)) % 2 ^ 64 + slice_index (fields s) n) % 2 ^ 64 ≡
+    (sum (take n (fields s)) + slice_index (fields s) n) % 2 ^ 64 = omega arith in
     split ∙ ap (λ (x : ℕ). x % 2 ^ 64) (sym more)
 
 -- all fields

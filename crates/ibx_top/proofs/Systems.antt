@@ -13,6 +13,8 @@ words_length image addr zero = refl
 words_length image addr (suc n) = ap suc (words_length image (addr + 4) n)
 
 -- the memory has the words of the image's RAM
-pub memory_size : (image : Placed) (config : Config) (plan : PlanValue) → length (first image config plan).place.memory.words ≡ image.ram.size / 4
+pub memory_size : (image : Placed) (config : Config) (plan : PlanValue) → length
+    (first image config plan).place.memory.words ≡ image.ram.size / 4
 unfolding first
-memory_size image config plan = length-map (image_words image) (λ (v : ℕ). encode_of 32 7 v) ∙ words_length image image.ram.base (image.ram.size / 4)
+memory_size image config plan = length-map (image_words image) (λ (v : ℕ). encode_of 32 7 v) ∙ words_length image
+    image.ram.base (image.ram.size / 4)

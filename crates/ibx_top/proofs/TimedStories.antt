@@ -1,5 +1,6 @@
 -- The run of a system whose events are a history prints the story of the time equations.
-use Rattle.std.proofs.Common.{◌≡◌, ℕ, zero, suc, ◌+◌, ◌<◌, ◌^◌, Bool, true, false, ◌||◌, ◌&&◌, ◌%◌, List, [], ◌∷◌, ◌++◌, Option, Some, None, length, refl, sym, ap, ap₂, subst, ◌∙◌, arith}
+use Rattle.std.proofs.Common.{◌≡◌, ℕ, zero, suc, ◌+◌, ◌<◌, ◌^◌, Bool, true, false, ◌||◌, ◌&&◌, ◌%◌, List, [], ◌∷◌, ◌++◌}
+use Rattle.std.proofs.Common.{Option, Some, None, length, refl, sym, ap, ap₂, subst, ◌∙◌, arith}
 use Rattle.std.specs.Prelude.{flat_map, ◌==◌, if◌then◌else◌}
 use Rattle.ibx_bits.specs.Platform.{halt_register}
 use Rattle.std.specs.List.{list_any}
@@ -24,6 +25,7 @@ use Rattle.ibx_soc.specs.Cycles.{cycle_of, happens_at, soc_next}
 use Rattle.ibx_compare.specs.Drives.{Drive, drive_after, drive_by, drive_from}
 use Rattle.ibx_top.specs.Drives.{drive_text}
 use Rattle.ibx_top.specs.Texts.{last_line, story_text}
+use Rattle.ibx_top.specs.Generated.{sum_lines, sum_text, written_sum}
 use Rattle.ibx_top.specs.TimedStories.{timed_story}
 use Rattle.ibx_top.specs.Verdicts.{system_of}
 use Rattle.ibx_top.specs.Answers.{IsOneOf, halt_code, setup_of}
@@ -50,26 +52,31 @@ unfolding drive_after
 after_events true e n d es same = refl
 after_events false e n d es same = ap (λ (rest : List Event). e ∷ rest) same
 
-by_events : (o : Option Event) (n : Whole State) (d : Drive) (es : List Event) → d.events ≡ up_to_halt es → (drive_by o n d).events ≡ up_to_halt (with_event o es)
+by_events : (o : Option Event) (n : Whole State) (d : Drive) (es : List Event) → d.events ≡ up_to_halt es →
+    (drive_by o n d).events ≡ up_to_halt (with_event o es)
 unfolding drive_by up_to_halt
 by_events None n d es same = same
 by_events (Some e) n d es same =
-    after_events (halts e) e n d es same ∙ ap (λ (b : Bool). if b then e ∷ [] else e ∷ up_to_halt es) (sym (halts_alike e))
+    after_events (halts e) e n d es same ∙ ap (λ (b : Bool). if b then e ∷ [] else e ∷ up_to_halt es)
+    (sym (halts_alike e))
 
 pub drive_events : (n : ℕ) (w : Whole State) → (drive_from n w).events ≡ up_to_halt (events_of n w)
 unfolding drive_from events_of up_to_halt
 drive_events zero w = refl
 drive_events (suc n) w =
-    by_events (cycle_of w).event (soc_next w) (drive_from n (soc_next w)) (events_of n (soc_next w)) (drive_events n (soc_next w))
+    by_events (cycle_of w).event (soc_next w) (drive_from n (soc_next w)) (events_of n (soc_next w))
+    (drive_events n (soc_next w))
 
 -- ---- whether one of them halts
 
-after_halted : (b : Bool) (e : Event) (n : Whole State) (d : Drive) (any : Bool) → d.halted ≡ any → (drive_after b e n d).halted ≡ (b || any)
+after_halted : (b : Bool) (e : Event) (n : Whole State) (d : Drive) (any : Bool) → d.halted ≡ any →
+    (drive_after b e n d).halted ≡ (b || any)
 unfolding drive_after
 after_halted true e n d any same = refl
 after_halted false e n d any same = same
 
-by_halted : (o : Option Event) (n : Whole State) (d : Drive) (es : List Event) → d.halted ≡ list_any halts es → (drive_by o n d).halted ≡ list_any halts (with_event o es)
+by_halted : (o : Option Event) (n : Whole State) (d : Drive) (es : List Event) → d.halted ≡ list_any halts es →
+    (drive_by o n d).halted ≡ list_any halts (with_event o es)
 unfolding drive_by
 by_halted None n d es same = same
 by_halted (Some e) n d es same = after_halted (halts e) e n d (list_any halts es) same
@@ -78,11 +85,13 @@ drive_halted : (n : ℕ) (w : Whole State) → (drive_from n w).halted ≡ list_
 unfolding drive_from events_of
 drive_halted zero w = refl
 drive_halted (suc n) w =
-    by_halted (cycle_of w).event (soc_next w) (drive_from n (soc_next w)) (events_of n (soc_next w)) (drive_halted n (soc_next w))
+    by_halted (cycle_of w).event (soc_next w) (drive_from n (soc_next w)) (events_of n (soc_next w))
+    (drive_halted n (soc_next w))
 
 -- ---- the number of cycles at the end
 
--- a run that begins at a cycle: where it halts, its last event is done in the cycle before its end, and else it takes all cycles
+-- a run that begins at a cycle: where it halts, its last event is done in the cycle before its end, and else it takes
+-- all cycles
 record Ends (first cycles : ℕ) (d : Drive) : Type 0 where
   pub halts : (before : ℕ) → d.halted ≡ true → d.left.place.cycle ≡ cycles_passed before d.events
   pub goes_on : d.halted ≡ false → d.left.place.cycle ≡ first + cycles
@@ -98,7 +107,8 @@ happened_in : (w : Whole State) (e : Event) → (cycle_of w).event ≡ Some e �
 unfolding cycle_of
 happened_in w e h = happened w.place.cycle (output_of core_parts w).event e h
 
-after_ends : (b : Bool) (e : Event) (first n : ℕ) (next : Whole State) (d : Drive) → event_cycle e ≡ first → next.place.cycle ≡ first + 1 → Ends (first + 1) n d
+after_ends : (b : Bool) (e : Event) (first n : ℕ) (next : Whole State) (d : Drive) → event_cycle e ≡ first →
+    next.place.cycle ≡ first + 1 → Ends (first + 1) n d
     → Ends first (suc n) (drive_after b e next d)
 unfolding drive_after
 after_ends true e first n next d at following ends = record {
@@ -110,7 +120,8 @@ after_ends false e first n next d at following ends = record {
   goes_on = λ halted. ends.goes_on halted ∙ (let count : first + 1 + n ≡ first + suc n = omega arith in count);
 }
 
-by_ends : (o : Option Event) (first n : ℕ) (next : Whole State) (d : Drive) → ((e : Event) → o ≡ Some e → event_cycle e ≡ first) → next.place.cycle ≡ first + 1 → Ends (first + 1) n d
+by_ends : (o : Option Event) (first n : ℕ) (next : Whole State) (d : Drive) → ((e : Event) → o ≡ Some e → event_cycle e
+    ≡ first) → next.place.cycle ≡ first + 1 → Ends (first + 1) n d
     → Ends first (suc n) (drive_by o next d)
 unfolding drive_by
 by_ends None first n next d at following ends = record {
@@ -139,7 +150,8 @@ drive_ends (suc n) w =
 -- ---- the text
 
 end_alike : (b : Bool) (budget : ℕ) (d : Drive) → d.halted ≡ b → Ends 0 budget d
-    → end_line_of d.halted d.left.place.cycle (length d.events) ≡ end_line_of b (if b then cycles_passed 0 d.events else budget) (length d.events)
+    → end_line_of d.halted d.left.place.cycle (length d.events) ≡ end_line_of b (if b then cycles_passed 0 d.events
+    else budget) (length d.events)
 end_alike true budget d halted ends =
     ap₂ (λ (b : Bool) (c : ℕ). end_line_of b c (length d.events)) halted (ends.halts 0 halted)
 end_alike false budget d halted ends =
@@ -153,14 +165,34 @@ unfolding drive_text story_text last_line timed_story
 text_is s budget w law low new =
     let d : Drive = drive_from budget w in
     let any : Bool = list_any halts (history s budget) in
-    let events : d.events ≡ up_to_halt (history s budget) = drive_events budget w ∙ ap up_to_halt (law.events budget low) in
+    let events : d.events ≡ up_to_halt (history s budget) = drive_events budget w ∙ ap up_to_halt
+    (law.events budget low) in
     let halted : d.halted ≡ any = drive_halted budget w ∙ ap (list_any halts) (law.events budget low) in
     let ends : Ends 0 budget d = start new (drive_ends budget w) in
     ap (λ (t : List ℕ). flat_map line_of d.events ++ t) (end_alike any budget d halted ends)
-    ∙ ap (λ (es : List Event). flat_map line_of es ++ end_line_of any (if any then cycles_passed 0 es else budget) (length es)) events
+    ∙ ap (λ (es : List Event). flat_map line_of es ++ end_line_of any (if any then cycles_passed 0 es else budget)
+    (length es)) events
   where
     start : {a : ℕ} {n : ℕ} {d : Drive} → a ≡ 0 → Ends a n d → Ends 0 n d
     start {a} {n} {d} e ends = subst (λ (c : ℕ). Ends c n d) e ends
+
+-- so is what is printed of its sum
+pub sum_text_is : (number : ℕ) (s : Setup) (budget : ℕ) (w : Whole State) → IsHistory s w → budget < 2 ^ 62 →
+    w.place.cycle ≡ 0
+    → sum_lines number (written_sum (drive_from budget w).events) ++ end_line_of (drive_from budget w).halted
+    (drive_from budget w).left.place.cycle (length (drive_from budget w).events)
+    ≡ sum_text number budget (timed_story s budget)
+unfolding sum_text last_line timed_story
+sum_text_is number s budget w law low new =
+    let d : Drive = drive_from budget w in
+    let any : Bool = list_any halts (history s budget) in
+    let events : d.events ≡ up_to_halt (history s budget) = drive_events budget w ∙ ap up_to_halt
+    (law.events budget low) in
+    let halted : d.halted ≡ any = drive_halted budget w ∙ ap (list_any halts) (law.events budget low) in
+    let ends : Ends 0 budget d = subst (λ (c : ℕ). Ends c budget d) new (drive_ends budget w) in
+    ap (λ (t : List ℕ). sum_lines number (written_sum d.events) ++ t) (end_alike any budget d halted ends)
+    ∙ ap (λ (es : List Event). sum_lines number (written_sum es) ++ end_line_of any (if any then cycles_passed 0 es
+    else budget) (length es)) events
 
 -- and it ends as its story does
 pub halted_is : (s : Setup) (budget : ℕ) (w : Whole State) → IsHistory s w → budget < 2 ^ 62
@@ -174,9 +206,10 @@ halted_is s budget w law low = drive_halted budget w ∙ ap (list_any halts) (la
 pub opened_is_history : (options : Options) (plan : PlanValue) (image : Placed) → IsPlaced (setup_of options plan image)
     → IsHistory (setup_of options plan image) (system_of image options plan)
 opened_is_history options plan image placed =
-    let s : Setup = setup_of options plan image in two_core_laws s placed (system_of image options plan) (starts s placed)
+    let s : Setup = setup_of options plan image in two_core_laws s placed (system_of image options plan)
+    (starts s placed)
 
 -- a run ends with status 0 or 1
-pub runs_or_spends : (halted : Bool) → IsOneOf (0 ∷ 1 ∷ 8 ∷ []) (halt_code halted)
+pub runs_or_spends : (halted : Bool) → IsOneOf (0 ∷ 1 ∷ 8 ∷ 9 ∷ []) (halt_code halted)
 runs_or_spends true = refl
 runs_or_spends false = refl

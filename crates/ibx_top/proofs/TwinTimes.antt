@@ -1,5 +1,5 @@
--- Two histories with equal settings have equal cycles as far as their views are compared and found equal.
-use Rattle.std.proofs.Common.{◌≡◌, ℕ, ◌+◌, ◌<◌, ◌≤◌, ◌^◌, List, length, map, refl, sym, ap, ap₂, subst, ◌∙◌, arith}
+-- Two runs with equal settings have equal cycles as far as their views are compared and found equal.
+use Rattle.std.proofs.Common.{◌≡◌, ℕ, ◌<◌, ◌≤◌, ◌^◌, List, length, map, refl, sym, ap, ap₂, ◌∙◌, arith}
 use Rattle.std.specs.Prelude.{take}
 use Rattle.std.proofs.lemmas.List.{length-map, take_all}
 use Rattle.ibx_isa.specs.declared.event.Event.{Event}
@@ -8,51 +8,52 @@ use Rattle.ibx_core.specs.declared.state.State.{State}
 use Rattle.ibx_flips.specs.System.{Whole}
 use Rattle.ibx_time.specs.Cycles.{cycle_of}
 use Rattle.ibx_time.specs.History.{story, up_to_halt}
-use Rattle.ibx_time.specs.Settings.{Setup, settings_of}
+use Rattle.ibx_time.specs.Settings.{Setup}
 use Rattle.ibx_time.proofs.Halts.{equal_stories}
 use Rattle.ibx_compare.specs.declared.comparison.Twin.{Twin}
 use Rattle.ibx_compare.specs.declared.comparison.Twin.TheVariants.{Same, Differ}
 use Rattle.ibx_compare.specs.Drives.{drive_from}
-use Rattle.ibx_compare.specs.Twins.{IsFirstDifference, twin_of, views_of}
+use Rattle.ibx_compare.specs.Twins.{IsFirstDifference, first_difference, twin_of}
 use Rattle.ibx_compare.proofs.Comparing.{is_first}
 use Rattle.ibx_matching.specs.Laws.{IsHistory}
-use Rattle.ibx_top.specs.TwinTimes.{AgreeAsFar, TwinsAgreeInTime, story_cycles}
+use Rattle.ibx_top.specs.TimedStories.{timed_story}
+use Rattle.ibx_top.specs.Twins.{AgreeAsFar, TwinsAgreeInTime, compared}
 use Rattle.ibx_top.proofs.TimedStories.{drive_events}
 
--- the events of a run that is a history are its story
-events_are : (s : Setup) (w : Whole State) (cycles : ℕ) → IsHistory s w → cycles < 2 ^ 62 → (drive_from cycles w).events ≡ story s cycles
+-- the events of a run that is a history are its story's
+events_are : (s : Setup) (w : Whole State) (cycles : ℕ) → IsHistory s w → cycles < 2 ^ 62 →
+    (drive_from cycles w).events ≡ (timed_story s cycles).events
+unfolding timed_story
 events_are s w cycles law low = drive_events cycles w ∙ ap up_to_halt (law.events cycles low)
 
-module _ (s t : Setup) (a b : Whole State) (cycles : ℕ) (same : settings_of s ≡ settings_of t) (of_a : IsHistory s a) (of_b : IsHistory t b) (low : cycles < 2 ^ 62) where
-  -- equal first views have equal first cycles
-  first_cycles : (k : ℕ) → take k (views_of cycles a) ≡ take k (views_of cycles b)
-      → take k (story_cycles cycles a) ≡ take k (story_cycles cycles b)
-  first_cycles k views =
-      let x : (drive_from cycles a).events ≡ story s cycles = events_are s a cycles of_a low in
-      let y : (drive_from cycles b).events ≡ story t cycles = events_are t b cycles of_b low in
-      ap (λ (es : List Event). take k (map cycle_of es)) x
-      ∙ equal_stories s t same cycles cycles k
-      (sym (ap (λ (es : List Event). take k (map view_of es)) x) ∙ views ∙ ap (λ (es : List Event). take k (map view_of es)) y)
-      ∙ sym (ap (λ (es : List Event). take k (map cycle_of es)) y)
+-- so the comparison of two such runs is that of their stories
+pub compares_stories : (s t : Setup) (a b : Whole State) (cycles : ℕ) → IsHistory s a → IsHistory t b → cycles < 2 ^ 62
+    → twin_of cycles a b ≡ compared cycles s t
+compares_stories s t a b cycles of_a of_b low =
+    ap₂ (λ (xs ys : List Event). first_difference 0 (map view_of xs) (map view_of ys))
+    (events_are s a cycles of_a low) (events_are t b cycles of_b low)
 
-  -- as far as an answer says
-  by_answer : (answer : Twin) → IsFirstDifference (views_of cycles a) (views_of cycles b) answer
-      → AgreeAsFar answer (story_cycles cycles a) (story_cycles cycles b)
-  by_answer (Same n) first =
-      let count_a : length (story_cycles cycles a) ≤ n =
-      (let e : length (story_cycles cycles a) ≡ length (views_of cycles a) =
-      length-map (drive_from cycles a).events cycle_of ∙ sym (length-map (drive_from cycles a).events view_of) in omega (arith, e, first.1)) in
-      let count_b : length (story_cycles cycles b) ≤ n =
-      (let e : length (story_cycles cycles b) ≡ length (views_of cycles b) =
-      length-map (drive_from cycles b).events cycle_of ∙ sym (length-map (drive_from cycles b).events view_of) in
-      let alike : length (views_of cycles a) ≡ length (views_of cycles b) = ap length first.0 in omega (arith, e, alike, first.1)) in
-      sym (take_all n (story_cycles cycles a) count_a)
-      ∙ first_cycles n (ap (take n) first.0)
-      ∙ take_all n (story_cycles cycles b) count_b
-  by_answer (Differ at x y) first = first_cycles at first.0
+-- two lists of events, whose first cycles are equal where their first views are
+module _ (xs ys : List Event)
+    (first : (k : ℕ) → take k (map view_of xs) ≡ take k (map view_of ys)
+    → take k (map cycle_of xs) ≡ take k (map cycle_of ys)) where
+  -- there are as many cycles as views
+  count : (es : List Event) → length (map cycle_of es) ≡ length (map view_of es)
+  count es = length-map es cycle_of ∙ sym (length-map es view_of)
+
+  -- have equal cycles as far as an answer says
+  by_answer : (answer : Twin) → IsFirstDifference (map view_of xs) (map view_of ys) answer
+      → AgreeAsFar answer (map cycle_of xs) (map cycle_of ys)
+  by_answer (Same n) is =
+      let of_xs : length (map cycle_of xs) ≤ n = omega (arith, count xs, is.1) in
+      let alike : length (map view_of xs) ≡ length (map view_of ys) = ap length is.0 in
+      let of_ys : length (map cycle_of ys) ≤ n = omega (arith, count ys, alike, is.1) in
+      sym (take_all n (map cycle_of xs) of_xs) ∙ first n (ap (take n) is.0) ∙ take_all n (map cycle_of ys) of_ys
+  by_answer (Differ at x y) is = first at is.0
 
 -- so the answer of a comparison tells of the cycles too
 pub twins_agree_in_time : TwinsAgreeInTime
-twins_agree_in_time s t a b cycles same of_a of_b low =
-    by_answer s t a b cycles same of_a of_b low (twin_of cycles a b)
-    (is_first (views_of cycles a) (views_of cycles b) (twin_of cycles a b) refl)
+unfolding timed_story
+twins_agree_in_time s t budget same =
+    by_answer (story s budget) (story t budget) (equal_stories s t same budget budget) (compared budget s t)
+    (is_first (map view_of (story s budget)) (map view_of (story t budget)) (compared budget s t) refl)

@@ -13,6 +13,10 @@ use Rattle.ibx_plan.specs.declared.bounds.PlanFault.{PlanFault}
 use Rattle.ibx_plan.specs.Plan.{PlanValue, empty_plan, plan_of}
 use Rattle.ibx_command.specs.declared.options.Options.{Options}
 use Rattle.ibx_command.specs.Command.{Meaning, Running, Injecting}
+use Rattle.ibx_command.specs.Command.{Twinning, Generating, Assembling, Disassembling}
+use Rattle.ibx_compare.specs.declared.comparison.Twin.{Twin}
+use Rattle.ibx_gen.specs.Image.{default_ram}
+use Rattle.ibx_gen.specs.Words.{generated}
 use Rattle.ibx_compare.specs.declared.flipped.Verdict.{Verdict}
 use Rattle.ibx_compare.specs.Verdicts.{IsNoticed}
 use Rattle.ibx_time.specs.Settings.{Setup}
@@ -22,8 +26,15 @@ use Rattle.ibx_top.specs.TimedStories.{TimedStory, timed_story}
 use Rattle.ibx_top.specs.Texts.{story_text}
 use Rattle.ibx_compare.specs.Drives.{drive_from}
 use Rattle.ibx_top.specs.Seals.{seal_of}
+use Rattle.ibx_top.specs.Generated.{sum_text}
 use Rattle.ibx_top.specs.Verdicts.{verdict_text, verdict_of, system_of}
+use Rattle.ibx_top.specs.Twins.{AgreeAsFar, compared, cycles_in, differs, twin_code, twin_seal, twin_text}
 use Rattle.ibx_top.specs.ErrLines.{too_long_line, fault_line, plan_fault_line}
+use Rattle.ibx_asm.specs.declared.fault.AsmFault.{AsmFault}
+use Rattle.ibx_asm.specs.Denote.{denoted}
+use Rattle.ibx_listing.specs.Listing.{listing_of}
+use Rattle.ibx_wrap.specs.Wrapped.{wrapped}
+use Rattle.ibx_top.specs.ErrLines.{text_too_long_line, asm_fault_line}
 
 -- the status, the texts for the output and for the error output, and the seal
 pub record Answer : Type 0 where
@@ -89,6 +100,23 @@ abbrev pub ran_by : Options → PlanValue → Placed → Answer
 ran_by options plan image =
     story_answer options.cycles (timed_story (setup_of options plan image) options.cycles) (run_seal options plan image)
 
+-- ---- `gen`
+
+-- the answer to the image of a number's program: the sum of its story, how it ended, and the seal
+abbrev pub summed_answer : ℕ → ℕ → TimedStory → ℕ → Answer
+summed_answer number budget story seal =
+    record { code = halt_code story.halted; text = sum_text number budget story; line = []; seal = seal }
+
+-- the answer to this image, which is run without a plan
+abbrev pub summed_by : ℕ → Options → Placed → Answer
+summed_by number options image =
+    summed_answer number options.cycles (timed_story (setup_of options empty_plan image) options.cycles)
+    (run_seal options empty_plan image)
+
+-- the answer to a number: that to the image of the file that it gives, in the memory of a run without options
+abbrev pub generated_by : ℕ → Options → Answer
+generated_by number options = summed_by number options (image_of (generated number) default_ram)
+
 -- ---- `inject`
 
 -- the status of an injection, by whether there is an alert
@@ -128,6 +156,48 @@ planned_answer task name plan options text bytes =
 abbrev pub plain_answer : List ℕ → Options → List ℕ → Answer
 plain_answer name options = file_answer name options.ram (done Run options empty_plan)
 
+-- ---- `twin`
+
+-- the answer of a comparison, with its seal
+abbrev pub twin_answer : Twin → ℕ → Answer
+twin_answer twin seal = record { code = twin_code (differs twin); text = twin_text twin; line = []; seal = seal }
+
+-- how the runs of two images by one plan compare
+abbrev pub compared_by : Options → PlanValue → Placed → Placed → Twin
+compared_by options plan a b = compared options.cycles (setup_of options plan a) (setup_of options plan b)
+
+-- the answer to two images that are compared: the events of the time equations, and the seal of the cores' steps
+abbrev pub twinned_by : Options → PlanValue → Placed → Placed → Answer
+twinned_by options plan a b =
+    twin_answer (compared_by options plan a b)
+    (twin_seal options.cycles (compared_by options plan a b) (system_of a options plan) (system_of b options plan))
+
+-- ---- `asm` and `dis`
+
+-- the answer that writes this text and ends well
+abbrev pub written_answer : List ℕ → Answer
+written_answer text = record { code = 0; text = text; line = []; seal = 0 }
+
+-- the most bytes that a text may have, 4 MiB
+abbrev pub text_limit : ℕ
+text_limit = 4194304
+
+-- the answer to a text of this name: whether it is too long, then its first refused line, and else the file around its code
+unfoldable pub asm_answer_by : List ℕ → Bool → Result (List ℕ) AsmFault → Answer
+asm_answer_by name true code = refusal 12 (text_too_long_line name)
+asm_answer_by name false (Err fault) = refusal 12 (asm_fault_line name fault)
+asm_answer_by name false (Ok code) = written_answer (wrapped code)
+
+abbrev pub asm_answer : List ℕ → List ℕ → Answer
+asm_answer name text = asm_answer_by name (nat_lt text_limit (length text)) (denoted text)
+
+-- the answer to a file whose code is printed
+abbrev pub listed : Placed → Answer
+listed image = written_answer (listing_of image)
+
+abbrev pub dis_answer : List ℕ → Ram → List ℕ → Answer
+dis_answer name ram bytes = file_answer name ram listed bytes
+
 -- ---- the contract's words
 
 -- an answer is that to the bytes of this file
@@ -150,11 +220,64 @@ abbrev pub IsRun : Option Contents → List ℕ → Option (List ℕ) → Option
 IsRun told name None options answer = IsAnswerTo told name (plain_answer name options) answer
 IsRun told name (Some plan) options answer = IsPlanned told Run name plan options answer
 
+-- an answer to a file of this name: whether its bytes are too long, then their first fault, and else it is one to its
+-- image
+abbrev pub IsAnsweredBy : List ℕ → Bool → Option ElfFault → (Answer → Type 0) → Answer → Type 0
+IsAnsweredBy name true fault Ran answer = answer ≡ refusal 5 (too_long_line name)
+IsAnsweredBy name false (Some fault) Ran answer = answer ≡ refusal 5 (fault_line name fault)
+IsAnsweredBy name false None Ran answer = Ran answer
+
+-- the same to bytes: an answer to their image may depend on more files, which are read where the bytes are no fault
+abbrev pub IsBytesAnswer : List ℕ → Ram → (Placed → Answer → Type 0) → List ℕ → Answer → Type 0
+IsBytesAnswer name ram Ran bytes =
+    IsAnsweredBy name (nat_lt file_limit (length bytes)) (first_fault bytes ram) (Ran (image_of bytes ram))
+
+-- the same, and the bytes are those of this file
+abbrev pub IsFileAnswer : Option Contents → List ℕ → Ram → (Placed → Answer → Type 0) → Answer → Type 0
+IsFileAnswer told name ram Ran answer = (bytes : List ℕ) × (IsContent told name bytes × IsBytesAnswer name ram Ran
+    bytes answer)
+
+-- an answer to a plan of this name: whether its text is too long, then its first fault, and else it is one under the
+-- plan
+abbrev pub IsFollowedBy : List ℕ → Bool → Result PlanValue PlanFault → (PlanValue → Answer → Type 0) → Answer → Type 0
+IsFollowedBy name true read Followed answer = answer ≡ refusal 6 (too_long_line name)
+IsFollowedBy name false (Err fault) Followed answer = answer ≡ refusal 6 (plan_fault_line name fault)
+IsFollowedBy name false (Ok plan) Followed answer = Followed plan answer
+
+-- the same to a text
+abbrev pub IsTextAnswer : List ℕ → Bounds → (PlanValue → Answer → Type 0) → List ℕ → Answer → Type 0
+IsTextAnswer name bounds Followed text =
+    IsFollowedBy name (nat_lt plan_limit (length text)) (plan_of bounds text) Followed
+
+-- the same, and the text is that of this plan
+abbrev pub IsPlanAnswer : Option Contents → List ℕ → Bounds → (PlanValue → Answer → Type 0) → Answer → Type 0
+IsPlanAnswer told name bounds Followed answer =
+    (text : List ℕ) × (IsContent told name text × IsTextAnswer name bounds Followed text answer)
+
+-- an answer to a second file, to the image of the first one
+abbrev pub IsSecond : Option Contents → List ℕ → Options → PlanValue → Placed → Answer → Type 0
+IsSecond told second options plan a = IsFileAnswer told second options.ram (λ b answer. answer ≡ twinned_by options
+    plan a b)
+
+-- an answer to two files: that to the first comes first, and where it is refused the second isn't read
+abbrev pub IsPair : Option Contents → List ℕ → List ℕ → Options → PlanValue → Answer → Type 0
+IsPair told first second options plan = IsFileAnswer told first options.ram (IsSecond told second options plan)
+
+-- an answer of `twin`, by the name of its plan, if there is one; a plan that is refused comes before both files
+abbrev pub IsTwin : Option Contents → List ℕ → List ℕ → Option (List ℕ) → Options → Answer → Type 0
+IsTwin told first second None options answer = IsPair told first second options empty_plan answer
+IsTwin told first second (Some plan) options answer =
+    IsPlanAnswer told plan (bounds_of Run options) (IsPair told first second options) answer
+
 -- an answer is that to what the words mean and to the bytes of the files that they name
 abbrev pub IsAnswer : Option Contents → Option Meaning → Answer → Type 0
 IsAnswer told None answer = ⊥
 IsAnswer told (Some (Running name plan options)) answer = IsRun told name plan options answer
 IsAnswer told (Some (Injecting name plan options)) answer = IsPlanned told Inject name plan options answer
+IsAnswer told (Some (Twinning first second plan options)) answer = IsTwin told first second plan options answer
+IsAnswer told (Some (Generating number options)) answer = answer ≡ generated_by number options
+IsAnswer told (Some (Assembling name)) answer = IsAnswerTo told name (asm_answer name) answer
+IsAnswer told (Some (Disassembling name ram)) answer = IsAnswerTo told name (dis_answer name ram) answer
 
 -- the plan that is named, if there is one, and the file
 abbrev pub with_plan : Option (List ℕ) → List (List ℕ) → List (List ℕ)
@@ -166,17 +289,32 @@ abbrev pub names_of : Option Meaning → List (List ℕ)
 names_of None = []
 names_of (Some (Running name plan options)) = with_plan plan (name ∷ [])
 names_of (Some (Injecting name plan options)) = plan ∷ name ∷ []
+names_of (Some (Twinning first second plan options)) = with_plan plan (first ∷ second ∷ [])
+names_of (Some (Generating seed options)) = []
+names_of (Some (Assembling name)) = name ∷ []
+names_of (Some (Disassembling name ram)) = name ∷ []
 
 -- the statuses that a command has
 abbrev pub codes_of : Option Meaning → List ℕ
 codes_of None = 2 ∷ []
-codes_of (Some (Running name plan options)) = 0 ∷ 1 ∷ 3 ∷ 4 ∷ 5 ∷ 6 ∷ 7 ∷ []
+codes_of (Some (Running name None options)) = 0 ∷ 1 ∷ 3 ∷ 4 ∷ 5 ∷ 7 ∷ []
+codes_of (Some (Running name (Some plan) options)) = 0 ∷ 1 ∷ 3 ∷ 4 ∷ 5 ∷ 6 ∷ 7 ∷ []
 codes_of (Some (Injecting name plan options)) = 0 ∷ 3 ∷ 4 ∷ 5 ∷ 6 ∷ 7 ∷ 8 ∷ []
+codes_of (Some (Twinning first second None options)) = 0 ∷ 3 ∷ 4 ∷ 5 ∷ 7 ∷ 9 ∷ []
+codes_of (Some (Twinning first second (Some plan) options)) = 0 ∷ 3 ∷ 4 ∷ 5 ∷ 6 ∷ 7 ∷ 9 ∷ []
+codes_of (Some (Generating number options)) = 0 ∷ 1 ∷ 4 ∷ 7 ∷ []
+codes_of (Some (Assembling name)) = 0 ∷ 3 ∷ 4 ∷ 7 ∷ 12 ∷ []
+codes_of (Some (Disassembling name ram)) = 0 ∷ 3 ∷ 4 ∷ 5 ∷ 7 ∷ []
 
 -- a fact where the words are those of `inject`
 abbrev pub IfInject : Option Meaning → Type 0 → Type 0
 IfInject (Some (Injecting name plan options)) P = P
 IfInject _ P = ⊤
+
+-- a fact where the words are those of `twin`, about both files, the plan if there is one, and the options
+abbrev pub IfTwin : Option Meaning → (List ℕ → List ℕ → Option (List ℕ) → Options → Type 0) → Type 0
+IfTwin (Some (Twinning first second plan options)) P = P first second plan options
+IfTwin _ P = ⊤
 
 -- one of these statuses
 abbrev pub IsOneOf : List ℕ → ℕ → Type 0
@@ -205,7 +343,7 @@ pub record Gives (answer : Answer) (code seal : ℕ) (before after : Option (Lis
 
 -- the output took a prefix of the text of an answer that is no refusal
 pub record IsCutShort (answer : Answer) (before after : Option (List ℕ)) : Type 0 where
-  pub runs : IsOneOf (0 ∷ 1 ∷ 8 ∷ []) answer.code
+  pub runs : IsOneOf (0 ∷ 1 ∷ 8 ∷ 9 ∷ []) answer.code
   pub text : TookPrefix before answer.text after
 
 -- The output took the text of a verdict in which the bus doesn't differ without an alert, which comes at most two cycles after
@@ -215,6 +353,38 @@ pub record Notices (code : ℕ) (before after : Option (List ℕ)) : Type 0 wher
   pub noticed : IsNoticed verdict
   pub status : code ≡ alert_code (is_some verdict.first_alert)
   pub text : after ≡ with_more before (verdict_text verdict)
+
+-- an image is that of the bytes of this file, which isn't refused
+pub record IsImageIn (told : Option Contents) (name : List ℕ) (ram : Ram) (image : Placed) : Type 0 where
+  pub bytes : List ℕ
+  pub content : IsContent told name bytes
+  pub short : nat_lt file_limit (length bytes) ≡ false
+  pub sound : first_fault bytes ram ≡ None
+  pub placed : image ≡ image_of bytes ram
+
+-- a plan is that of the text of this one, which isn't refused; without a name it is empty
+abbrev pub IsPlanIn : Option Contents → Option (List ℕ) → Options → PlanValue → Type 0
+IsPlanIn told None options plan = plan ≡ empty_plan
+IsPlanIn told (Some name) options plan =
+    (text : List ℕ) × (IsContent told name text × ((nat_lt plan_limit (length text) ≡ false) ×
+    (plan_of (bounds_of Run options) text ≡ Ok plan)))
+
+-- The output took the text of how the runs of both files' images compare, the status says whether they differ, and the
+-- cycles of
+-- their events are the same as far as the views are: all, or those before the first difference.
+pub record TellsTime (told : Option Contents) (first second : List ℕ) (plan : Option (List ℕ)) (options : Options)
+    (code : ℕ) (before after : Option (List ℕ)) : Type 0 where
+  pub planned : PlanValue
+  pub a : Placed
+  pub b : Placed
+  pub of_plan : IsPlanIn told plan options planned
+  pub of_first : IsImageIn told first options.ram a
+  pub of_second : IsImageIn told second options.ram b
+  pub status : code ≡ twin_code (differs (compared_by options planned a b))
+  pub text : after ≡ with_more before (twin_text (compared_by options planned a b))
+  pub cycles : AgreeAsFar (compared_by options planned a b)
+      (cycles_in (timed_story (setup_of options planned a) options.cycles))
+      (cycles_in (timed_story (setup_of options planned b) options.cycles))
 
 -- the whole line was taken, or a prefix of it where a fault was counted
 abbrev pub Says : Option (List ℕ) → Option (List ℕ) → ℕ → ℕ → List ℕ → Type 0

@@ -5,8 +5,13 @@ use Rattle.ibx_plan.specs.declared.bounds.LineKind.{LineKind}
 use Rattle.ibx_plan.specs.declared.bounds.LineKind.TheVariants as kind
 use Rattle.ibx_plan.specs.declared.bounds.PlanFault.{PlanFault}
 use Rattle.ibx_plan.specs.declared.bounds.PlanFault.TheVariants as plan
+use Rattle.ibx_asm.specs.declared.fault.AsmFault.{AsmFault}
+use Rattle.ibx_asm.specs.declared.fault.AsmFault.TheVariants as asm
+use Rattle.ibx_asm.specs.declared.fault.AsmKind.{AsmKind}
+use Rattle.ibx_asm.specs.declared.fault.AsmKind.TheVariants as asm_kind
 use Rattle.ibx_elf.specs.declared.fault.ElfFault.{ElfFault}
-use Rattle.ibx_elf.specs.declared.fault.ElfFault.TheVariants.{Short, Magic, Class, Order, Version, Kind, Machine, Headers, TooMany, Segment, OutsideRam, Overlap, Entry}
+use Rattle.ibx_elf.specs.declared.fault.ElfFault.TheVariants.{Short, Magic, Class, Order, Version, Kind, Machine}
+use Rattle.ibx_elf.specs.declared.fault.ElfFault.TheVariants.{Headers, TooMany, Segment, OutsideRam, Overlap, Entry}
 
 abbrev pub bad_words_line : List ℕ
 bad_words_line = codes "ibex: bad words\n"
@@ -52,7 +57,8 @@ spaced n = codes " " ++ decimal n
 
 -- what the line of a fault has after the file's name
 unfoldable pub fault_text : ElfFault → List ℕ
-fault_text fault = codes ": elf fault" ++ spaced (fault_number fault) ++ flat_map spaced (fault_indices fault) ++ codes "\n"
+fault_text fault = codes ": elf fault" ++ spaced (fault_number fault) ++ flat_map spaced (fault_indices fault) ++ codes
+    "\n"
 
 abbrev pub fault_line : List ℕ → ElfFault → List ℕ
 fault_line name fault = codes "ibex: " ++ name ++ fault_text fault
@@ -74,3 +80,20 @@ plan_fault_text plan.Memory = codes ": no memory\n"
 
 abbrev pub plan_fault_line : List ℕ → PlanFault → List ℕ
 plan_fault_line name fault = codes "ibex: " ++ name ++ plan_fault_text fault
+
+abbrev pub text_too_long_line : List ℕ → List ℕ
+text_too_long_line name = codes "ibex: " ++ name ++ codes ": text too long\n"
+
+-- what a line of a text is refused for, after a space
+unfoldable pub asm_kind_text : AsmKind → List ℕ
+asm_kind_text asm_kind.Word = codes " word\n"
+asm_kind_text asm_kind.Range = codes " range\n"
+asm_kind_text asm_kind.Label = codes " label\n"
+
+-- what the line of a text's fault has after the text's name; want of memory is no fault of a text, and isn't printed
+unfoldable pub asm_fault_text : AsmFault → List ℕ
+asm_fault_text (asm.Line line kind) = codes ": asm line" ++ spaced line ++ asm_kind_text kind
+asm_fault_text asm.Memory = codes ": no memory\n"
+
+abbrev pub asm_fault_line : List ℕ → AsmFault → List ℕ
+asm_fault_line name fault = codes "ibex: " ++ name ++ asm_fault_text fault

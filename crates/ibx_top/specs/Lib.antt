@@ -3,7 +3,8 @@ pub mod Texts
 pub mod Verdicts
 pub mod Drives
 pub mod Seals
+pub mod Generated
 pub mod ErrLines
 pub mod Answers
 pub mod Outcomes
-pub mod TwinTimes
+pub mod Twins

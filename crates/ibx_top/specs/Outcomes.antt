@@ -7,14 +7,19 @@ use Rattle.ibx_command.specs.Command.{Meaning}
 use Rattle.ibx_top.specs.declared.task.Task.{Task}
 use Rattle.ibx_top.specs.declared.task.Task.TheVariants.{Run, Inject}
 use Rattle.ibx_top.specs.declared.outcome.Outcome.{Outcome}
-use Rattle.ibx_top.specs.declared.outcome.Outcome.TheVariants.{Ran, Injected, BadWords, CannotRead, CannotWrite, TooLong, Refused, PlanTooLong, PlanRefused, OutOfMemory}
-use Rattle.ibx_top.specs.ErrLines.{bad_words_line, cannot_read_line, cannot_write_line, too_long_line, fault_line, plan_fault_line, out_of_memory_line}
+use Rattle.ibx_top.specs.declared.outcome.Outcome.TheVariants.{Ran, Injected, Compared, Written, BadWords, CannotRead}
+use Rattle.ibx_top.specs.declared.outcome.Outcome.TheVariants.{CannotWrite, TooLong, Refused, PlanTooLong, PlanRefused}
+use Rattle.ibx_top.specs.declared.outcome.Outcome.TheVariants.{TextTooLong, TextRefused, OutOfMemory}
+use Rattle.ibx_top.specs.ErrLines.{bad_words_line, cannot_read_line, cannot_write_line, too_long_line, fault_line}
+use Rattle.ibx_top.specs.ErrLines.{plan_fault_line, text_too_long_line, asm_fault_line, out_of_memory_line}
+use Rattle.ibx_top.specs.Twins.{twin_code}
 use Rattle.ibx_top.specs.Answers.{Answer, halt_code, alert_code, AreThere, IsAmong, IsCutShort, Notices}
 
 -- the status
 abbrev pub code_of : Outcome → ℕ
 code_of (Ran halted seal) = halt_code halted
 code_of (Injected alert) = alert_code alert
+code_of (Compared differ seal) = twin_code differ
 code_of BadWords = 2
 code_of (CannotRead name) = 3
 code_of CannotWrite = 4
@@ -23,11 +28,15 @@ code_of (Refused name fault) = 5
 code_of (PlanTooLong name) = 6
 code_of (PlanRefused name fault) = 6
 code_of OutOfMemory = 7
+code_of Written = 0
+code_of (TextTooLong name) = 12
+code_of (TextRefused name fault) = 12
 
 -- the line on the error output, and nothing where there is none
 abbrev pub err_line_of : Outcome → List ℕ
 err_line_of (Ran halted seal) = []
 err_line_of (Injected alert) = []
+err_line_of (Compared differ seal) = []
 err_line_of BadWords = bad_words_line
 err_line_of (CannotRead name) = cannot_read_line name.now
 err_line_of CannotWrite = cannot_write_line
@@ -36,10 +45,14 @@ err_line_of (Refused name fault) = fault_line name.now fault
 err_line_of (PlanTooLong name) = too_long_line name.now
 err_line_of (PlanRefused name fault) = plan_fault_line name.now fault
 err_line_of OutOfMemory = out_of_memory_line
+err_line_of Written = []
+err_line_of (TextTooLong name) = text_too_long_line name.now
+err_line_of (TextRefused name fault) = asm_fault_line name.now fault
 
--- the seal, which a run alone has
+-- the seal, which a run and a comparison have
 abbrev pub seal_in : Outcome → ℕ
 seal_in (Ran halted seal) = seal
+seal_in (Compared differ seal) = seal
 seal_in _ = 0
 
 -- a fact where the words don't fit
@@ -62,10 +75,14 @@ IsPastReading _ = ⊤
 abbrev pub IfAnswered : Outcome → Type 0 → Type 0
 IfAnswered (Ran halted seal) P = P
 IfAnswered (Injected alert) P = P
+IfAnswered (Compared differ seal) P = P
 IfAnswered (TooLong name) P = P
 IfAnswered (Refused name fault) P = P
 IfAnswered (PlanTooLong name) P = P
 IfAnswered (PlanRefused name fault) P = P
+IfAnswered Written P = P
+IfAnswered (TextTooLong name) P = P
+IfAnswered (TextRefused name fault) P = P
 IfAnswered _ P = ⊤
 
 -- a fact where the output can't be written
@@ -77,7 +94,9 @@ IfUnwritten _ P = ⊤
 abbrev pub UnlessRan : Outcome → Type 0 → Type 0
 UnlessRan (Ran halted seal) P = ⊤
 UnlessRan (Injected alert) P = ⊤
+UnlessRan (Compared differ seal) P = ⊤
 UnlessRan CannotWrite P = ⊤
+UnlessRan Written P = ⊤
 UnlessRan _ P = P
 
 -- the end is this answer, and the output took its whole text
@@ -91,6 +110,8 @@ pub record Settles (answer : Answer) (end : Outcome) (before after : Option (Lis
 abbrev pub EndsNoticed : Outcome → Option (List ℕ) → Option (List ℕ) → Type 0
 EndsNoticed (Ran halted seal) before after = ⊥
 EndsNoticed (Injected alert) before after = Notices (alert_code alert) before after
+EndsNoticed (Compared differ seal) before after = ⊥
+EndsNoticed Written before after = ⊥
 EndsNoticed _ before after = ⊤
 
 -- a fact of an injection

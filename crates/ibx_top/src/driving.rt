@@ -16,7 +16,7 @@ use ibx_soc::Soc;
 use ibx_story::halts;
 use ibx_trace::{end_line, line};
 
-/// Writes the line of an event.
+// Writes the line of an event.
 fn print_event<K: Sink>(event: &Event, out: &mut K) -> Result<(), Failed>
     requires { IsPrintable event.now }
     ensures whole { OnOk result (K.taken out.new ≡ with_more (K.taken out.old) (line_of event.now)) }
@@ -28,7 +28,12 @@ fn print_event<K: Sink>(event: &Event, out: &mut K) -> Result<(), Failed>
 }
 
 /// Writes the last line: whether a halting store ended the run, and the counts of cycles and of events.
-fn print_end<K: Sink>(halted: bool, cycles: u64, events: u64, out: &mut K) -> Result<(), Failed>
+pub(crate) fn print_end<K: Sink>(
+    halted: bool,
+    cycles: u64,
+    events: u64,
+    out: &mut K,
+) -> Result<(), Failed>
     ensures whole { OnOk result
         (K.taken out.new ≡ with_more (K.taken out.old) (end_line_of halted cycles events)) }
     ensures prefix { OnErr result

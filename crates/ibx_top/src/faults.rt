@@ -1,27 +1,29 @@
-//! What is printed of a file or a plan that is refused.
+//! What is printed of a file, a plan or a text that is refused.
 ghost use Rattle.std.specs.Prelude.{◌≡◌, ◌+◌, ◌≤◌, ◌++◌, flat_map, length, codes};
 ghost use Rattle.arrayvec.specs.ArrayString.{array_string_len};
 ghost use Rattle.ibx_top.specs.ErrLines.{spaced, fault_number as fault_number_lem, fault_indices, fault_text as fault_text_lem, kind_text as kind_text_lem, plan_fault_text as plan_fault_text_lem};
+ghost use Rattle.ibx_top.specs.ErrLines.{asm_kind_text as asm_kind_text_lem, asm_fault_text as asm_fault_text_lem};
 
 use arrayvec::ArrayString;
+use ibx_asm::{AsmFault, AsmKind};
+use ibx_digits::Digits;
 use ibx_elf::ElfFault;
 use ibx_plan::{LineKind, PlanFault};
-use itoa::Buffer;
 
 /// The end of a line, which has at most 45 bytes.
 pub(crate) type Text = ArrayString<48>;
 
-/// Appends a space and a number.
+// Appends a space and a number.
 fn push_spaced(text: &mut Text, number: u32)
     requires { array_string_len text.old + 11 ≤ 48 }
     ensures bytes { text.new.bytes ≡ text.old.bytes ++ spaced number }
     ensures len { array_string_len text.new ≤ array_string_len text.old + 11 }
 {
     text.push_str(" ");
-    text.push_str(Buffer::new().format(number));
+    text.push_str(Digits::decimal(u64::from(number)).as_str());
 }
 
-/// The number of a fault: 1 to 13, in the order in which they are looked for.
+// The number of a fault: 1 to 13, in the order in which they are looked for.
 #[tactic(auto, unfolding(crate::specs::ErrLines::fault_number))]
 fn fault_number(fault: ElfFault) -> u32
     ensures { result ≡ fault_number_lem fault }
@@ -43,7 +45,7 @@ fn fault_number(fault: ElfFault) -> u32
     }
 }
 
-/// Appends the indices of the program headers that a fault names.
+// Appends the indices of the program headers that a fault names.
 #[tactic(auto, unfolding(crate::specs::ErrLines::fault_indices))]
 fn push_indices(text: &mut Text, fault: ElfFault)
     requires { array_string_len text.old + 22 ≤ 48 }
@@ -74,7 +76,7 @@ pub(crate) fn fault_text(fault: ElfFault) -> Text
     text
 }
 
-/// What a line of a plan is refused for, after a space and with the line feed.
+// What a line of a plan is refused for, after a space and with the line feed.
 #[tactic(auto, unfolding(crate::specs::ErrLines::kind_text))]
 fn kind_text(kind: LineKind) -> &'static str
     ensures bytes { result.now ≡ kind_text_lem kind }
@@ -89,7 +91,7 @@ fn kind_text(kind: LineKind) -> &'static str
     }
 }
 
-/// The text of a line of a plan: its number, and what it is refused for.
+// The text of a line of a plan: its number, and what it is refused for.
 fn line_text(line: u32, reason: &str) -> Text
     requires { length reason.now ≤ 10 }
     ensures { result.bytes ≡ codes ": plan line" ++ spaced line ++ reason.now }
@@ -121,4 +123,31 @@ pub(crate) fn plan_fault_text(fault: PlanFault) -> Text
         PlanFault::NoFlip => text_of(": no flip\n"),
         PlanFault::Memory => text_of(": no memory\n"),
     }
+}
+
+// What a line of a text is refused for, after a space and with the line feed.
+#[tactic(auto, unfolding(crate::specs::ErrLines::asm_kind_text))]
+fn asm_kind_text(kind: AsmKind) -> &'static str
+    ensures bytes { result.now ≡ asm_kind_text_lem kind }
+    ensures len { length result.now ≤ 10 }
+{
+    match kind {
+        AsmKind::Word => " word\n",
+        AsmKind::Range => " range\n",
+        AsmKind::Label => " label\n",
+    }
+}
+
+/// What the line of a fault has after the text's name, with the line feed.
+#[tactic(auto, unfolding(crate::specs::ErrLines::asm_fault_text))]
+pub(crate) fn asm_fault_text(fault: AsmFault) -> Text
+    ensures { result.bytes ≡ asm_fault_text_lem fault }
+{
+    let AsmFault::Line(line, kind) = fault else {
+        return text_of(": no memory\n");
+    };
+    let mut text = text_of(": asm line");
+    push_spaced(&mut text, line);
+    text.push_str(asm_kind_text(kind));
+    text
 }

@@ -11,16 +11,17 @@ ghost use Rattle.ibx_top.specs.declared.task.Task.TheVariants.{Inject};
 ghost use Rattle.ibx_top.specs.Outcomes.{EndsNoticed, IsPastReading, Prints};
 
 use crate::outcome::Outcome;
+use crate::system::open_system;
 use crate::verdict::print_verdict;
 use ibx_base::{Failed, Sink};
 use ibx_command::Options;
 use ibx_compare::{Verdict, inject};
 use ibx_elf::Image;
 use ibx_plan::{Flip, Plan};
-use ibx_soc::{Config, Soc};
+use ibx_soc::Soc;
 use std::alloc::Global;
 
-/// Runs two systems that are as they were opened, the second with a flip if there is one.
+// Runs two systems that are as they were opened, the second with a flip if there is one.
 #[tactic(auto, unfolding(crate::specs::Verdicts::verdict_by))]
 fn compare(clean: &mut Soc<'_>, faulty: &mut Soc<'_>, flip: Option<Flip>, cycles: u64) -> Verdict
     requires as_new { IsAsNew clean.old }
@@ -57,14 +58,10 @@ pub(crate) fn inject_image<'w, K: Sink>(
     ensures noticed { EndsNoticed result (K.taken out.old) (K.taken out.new) }
     ensures prints { Prints K.taken K.faults (λ answer. answer ≡ injected_by options plan.now image.now) result out.old out.new }
 {
-    let config = Config {
-        ram: image.ram(),
-        mul: options.mul,
-    };
-    let Ok(mut clean) = Soc::new(alloc, image, &config, plan) else {
+    let Ok(mut clean) = open_system(alloc, image, options, plan) else {
         return Outcome::OutOfMemory;
     };
-    let Ok(mut faulty) = Soc::new(alloc, image, &config, plan) else {
+    let Ok(mut faulty) = open_system(alloc, image, options, plan) else {
         return Outcome::OutOfMemory;
     };
     let verdict = compare(&mut clean, &mut faulty, plan.flip(), options.cycles);

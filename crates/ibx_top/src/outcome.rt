@@ -5,7 +5,8 @@ ghost use Rattle.ibx_base.specs.Sinks.{with_more, TookPrefix};
 ghost use Rattle.ibx_top.specs.Answers.{IsOneOf, Says};
 ghost use Rattle.ibx_top.specs.Outcomes.{code_of as code_of_lem, err_line_of, seal_in};
 
-use crate::faults::{fault_text, plan_fault_text};
+use crate::faults::{asm_fault_text, fault_text, plan_fault_text};
+use ibx_asm::AsmFault;
 use ibx_base::{Failed, Sink, Status, write_all};
 use ibx_elf::ElfFault;
 use ibx_plan::PlanFault;
@@ -17,6 +18,8 @@ pub(crate) enum Outcome<'w> {
     Ran { halted: bool, seal: u64 },
     /// The cores ran with and without a flip, and whether there was an alert.
     Injected(bool),
+    /// Two runs were compared: whether they differ, and the sum of the fields of both.
+    Compared { differ: bool, seal: u64 },
     /// The words don't fit the grammar.
     BadWords,
     /// This file can't be read.
@@ -33,10 +36,16 @@ pub(crate) enum Outcome<'w> {
     PlanRefused(&'w str, PlanFault),
     /// There was no memory.
     OutOfMemory,
+    /// The file of a text, or the text of a file, was written.
+    Written,
+    /// This text has too many bytes.
+    TextTooLong(&'w str),
+    /// A line of this text is refused.
+    TextRefused(&'w str, AsmFault),
 }
 
-/// Writes a line of three parts. After `Failed`, which comes only where the sink counted a fault, a prefix of it was
-/// taken.
+// Writes a line of three parts. After `Failed`, which comes only where the sink counted a fault, a prefix of it was
+// taken.
 fn write_parts<E: Sink>(err: &mut E, front: &str, middle: &str, back: &str) -> Result<(), Failed>
     ensures whole { OnOk result
         (E.taken err.new ≡ with_more (E.taken err.old) (front.now ++ middle.now ++ back.now)) }
@@ -49,15 +58,16 @@ fn write_parts<E: Sink>(err: &mut E, front: &str, middle: &str, back: &str) -> R
     write_all(err, back.as_bytes())
 }
 
-/// Writes the line of an outcome.
+// Writes the line of an outcome.
 fn write_line<E: Sink>(err: &mut E, outcome: Outcome<'_>) -> Result<(), Failed>
     ensures whole { OnOk result (E.taken err.new ≡ with_more (E.taken err.old) (err_line_of outcome.entry)) }
     ensures prefix { OnErr result (TookPrefix (E.taken err.old) (err_line_of outcome.entry) (E.taken err.new)) }
     ensures cause { HasCause (E.faults err.old) (E.faults err.new) result }
-    ensures quiet { IsOneOf (0 ∷ 1 ∷ 8 ∷ []) (code_of_lem outcome.entry) → err.new ≡ err.old }
+    ensures quiet { IsOneOf (0 ∷ 1 ∷ 8 ∷ 9 ∷ []) (code_of_lem outcome.entry) → err.new ≡ err.old }
 {
     match outcome {
-        Outcome::Ran { .. } | Outcome::Injected(_) => Ok(()),
+        Outcome::Ran { .. } | Outcome::Injected(_) | Outcome::Compared { .. } | Outcome::Written =>
+            Ok(()),
         Outcome::BadWords => write_all(err, b"ibex: bad words\n"),
         Outcome::CannotRead(name) => write_parts(err, "ibex: cannot read ", name, "\n"),
         Outcome::CannotWrite => write_all(err, b"ibex: cannot write\n"),
@@ -73,10 +83,15 @@ fn write_line<E: Sink>(err: &mut E, outcome: Outcome<'_>) -> Result<(), Failed>
             write_parts(err, "ibex: ", name, text.as_str())
         }
         Outcome::OutOfMemory => write_all(err, b"ibex: out of memory\n"),
+        Outcome::TextTooLong(name) => write_parts(err, "ibex: ", name, ": text too long\n"),
+        Outcome::TextRefused(name, fault) => {
+            let text = asm_fault_text(fault);
+            write_parts(err, "ibex: ", name, text.as_str())
+        }
     }
 }
 
-/// The status of an outcome.
+// The status of an outcome.
 fn code_of(outcome: Outcome<'_>) -> u8
     ensures { result ≡ code_of_lem outcome.entry }
 {
@@ -84,21 +99,24 @@ fn code_of(outcome: Outcome<'_>) -> u8
         Outcome::Ran { halted, .. } => { if halted { 0 } else { 1 } }
         Outcome::Injected(false) => 0,
         Outcome::Injected(true) => 8,
+        Outcome::Compared { differ, .. } => { if differ { 9 } else { 0 } }
         Outcome::BadWords => 2,
         Outcome::CannotRead(_) => 3,
         Outcome::CannotWrite => 4,
         Outcome::TooLong(_) | Outcome::Refused(_, _) => 5,
         Outcome::PlanTooLong(_) | Outcome::PlanRefused(_, _) => 6,
         Outcome::OutOfMemory => 7,
+        Outcome::Written => 0,
+        Outcome::TextTooLong(_) | Outcome::TextRefused(_, _) => 12,
     }
 }
 
-/// The seal of an outcome: that of a run, and else 0.
+// The seal of an outcome: that of a run or a comparison, and else 0.
 fn seal_of(outcome: Outcome<'_>) -> u64
     ensures { result ≡ seal_in outcome.entry }
 {
     match outcome {
-        Outcome::Ran { seal, .. } => seal,
+        Outcome::Ran { seal, .. } | Outcome::Compared { seal, .. } => seal,
         _ => 0,
     }
 }
@@ -109,7 +127,7 @@ pub(crate) fn report<E: Sink>(err: &mut E, outcome: Outcome<'_>) -> Status
     ensures seal { result.seal ≡ seal_in outcome.entry }
     ensures line { Says (E.taken err.old) (E.taken err.new) (E.faults err.old) (E.faults err.new)
         (err_line_of outcome.entry) }
-    ensures quiet { IsOneOf (0 ∷ 1 ∷ 8 ∷ []) (code_of_lem outcome.entry) → err.new ≡ err.old }
+    ensures quiet { IsOneOf (0 ∷ 1 ∷ 8 ∷ 9 ∷ []) (code_of_lem outcome.entry) → err.new ≡ err.old }
 {
     let _ = write_line(err, outcome);
     Status {

@@ -8,11 +8,11 @@ ghost use Rattle.ibx_top.specs.Outcomes.{IsPastReading, Prints};
 use crate::driving::drive;
 use crate::outcome::Outcome;
 use crate::seal::field_sum;
+use crate::system::open_system;
 use ibx_base::{Failed, Sink};
 use ibx_command::Options;
 use ibx_elf::Image;
 use ibx_plan::Plan;
-use ibx_soc::{Config, Soc};
 use std::alloc::Global;
 
 /// Runs an image on two cores in lockstep, and writes its events.
@@ -28,11 +28,7 @@ pub(crate) fn run_image<'w, K: Sink>(
     ensures past { IsPastReading result }
     ensures prints { Prints K.taken K.faults (λ answer. answer ≡ ran_by options plan.now image.now) result out.old out.new }
 {
-    let config = Config {
-        ram: image.ram(),
-        mul: options.mul,
-    };
-    let Ok(mut soc) = Soc::new(alloc, image, &config, plan) else {
+    let Ok(mut soc) = open_system(alloc, image, options, plan) else {
         return Outcome::OutOfMemory;
     };
     match drive(&mut soc, options.cycles, out) {

@@ -27,12 +27,12 @@ pub(crate) enum Task {
 }
 
 /// The most bytes that a file may have, 32 MiB.
-const FILE_LIMIT: usize = 33_554_432;
+pub(crate) const FILE_LIMIT: usize = 33_554_432;
 
 /// The most bytes that a plan may have, 4 MiB.
-const PLAN_LIMIT: usize = 4_194_304;
+pub(crate) const PLAN_LIMIT: usize = 4_194_304;
 
-/// Runs an image.
+// Runs an image.
 #[tactic(auto, unfolding(crate::specs::Answers::done))]
 fn do_image<'w, K: Sink>(
     task: Task,
@@ -56,7 +56,7 @@ fn do_image<'w, K: Sink>(
     }
 }
 
-/// The same of a file's bytes.
+// The same of a file's bytes.
 fn do_bytes<'w, K: Sink>(
     task: Task,
     alloc: Global,
@@ -82,7 +82,7 @@ fn do_bytes<'w, K: Sink>(
     }
 }
 
-/// Reads a file, and runs it by a plan.
+// Reads a file, and runs it by a plan.
 fn do_plan<'w, F: Files, K: Sink>(
     task: Task,
     alloc: Global,
@@ -110,7 +110,7 @@ fn do_plan<'w, F: Files, K: Sink>(
 }
 
 /// What the plan of a command may say.
-fn bounds_of(task: Task, options: Options) -> Bounds
+pub(crate) fn bounds_of(task: Task, options: Options) -> Bounds
     ensures { result ≡ bounds_of task options }
 {
     Bounds {
@@ -123,7 +123,7 @@ fn bounds_of(task: Task, options: Options) -> Bounds
     }
 }
 
-/// The same by the text of a plan.
+// The same by the text of a plan.
 #[allow(clippy::too_many_arguments)]
 fn do_text<'w, F: Files, K: Sink>(
     task: Task,

@@ -5,15 +5,20 @@ ghost use Rattle.ibx_base.specs.Files.{IsBegunAs};
 ghost use Rattle.ibx_command.specs.Command.{command_of};
 ghost use Rattle.ibx_top.specs.ErrLines.{bad_words_line, cannot_read_line, cannot_write_line, out_of_memory_line};
 ghost use Rattle.ibx_top.specs.Answers.{Answer, IsAnswer, IfInject, names_of, codes_of, Gives, IsCutShort, Notices, IsOneOf, IsAmong, AreThere, Says};
+ghost use Rattle.ibx_top.specs.Answers.{IfTwin, TellsTime};
 ghost use Rattle.ibx_top.specs.Outcomes.{EndsNoticed, Fits, Prints, Reads};
 
+use crate::asm_command::assemble_file;
+use crate::dis_command::disassemble_file;
+use crate::gen_command::do_seed;
 use crate::outcome::{Outcome, report};
 use crate::task::{Task, do_planned, run_plain};
+use crate::twin_command::compare;
 use ibx_base::{Files, Sink, Status};
 use ibx_command::{Command, read_words};
 use std::alloc::Global;
 
-/// Does what the words say.
+// Does what the words say.
 fn perform<'w, F: Files, K: Sink>(
     alloc: Global,
     words: &'w [String],
@@ -50,6 +55,12 @@ fn perform<'w, F: Files, K: Sink>(
             files,
             out,
         ),
+        Some(Command::Twin(asked)) => compare(alloc, asked, files, out),
+        Some(Command::Generate(asked)) => do_seed(alloc, asked.seed, asked.options, out),
+        Some(Command::Assemble(asked)) => assemble_file(alloc, asked.file, files, out),
+        Some(Command::Disassemble(asked)) => disassemble_file(
+            alloc, asked.file, asked.ram, files, out,
+        ),
     }
 }
 
@@ -59,24 +70,38 @@ fn perform<'w, F: Files, K: Sink>(
 /// `run FILE` runs the file on the two-stage core with its second core in lockstep, and writes the line of each event,
 /// with its clock cycle, then the last line. `inject FILE --plan PLAN` runs it twice, with and without the flip of the
 /// plan, and writes the first cycle in which the wires of the bus differ, and the first cycle with an alert. The plan's
-/// waits and interrupt lines hold for both.
+/// waits and interrupt lines hold for both. `twin FILE FILE` runs two files, and writes whether the views of their
+/// events are the same, or the first index at which they differ, with both views; a view has all of an event that time
+/// may depend on.
+///
+/// `asm FILE` reads a text of at most 4,194,304 bytes, and writes the file around the code that it stands for. `dis FILE`
+/// writes the code of a file as text.
+///
+/// `gen SEED` runs the program that the number gives, in the memory of a run without options and without a plan, and
+/// writes three lines: `gen SEED 4105`, with the count of the program's words; `sum HHHHHHHH`, the sum modulo 2^32 of the
+/// values that were written to registers; and the last line of the run.
 ///
 /// | status | of | meaning | line on `err` |
 /// |---|---|---|---|
-/// | 0 | `run` | a halting store ended the run | none |
+/// | 0 | `run`, `gen` | a halting store ended the run | none |
 /// | 0 | `inject` | there was no alert | none |
-/// | 1 | `run` | the budget of cycles ended the run | none |
+/// | 0 | `twin` | the views are the same, and so are the cycles of all events | none |
+/// | 0 | `asm`, `dis` | the file or the text was written | none |
+/// | 1 | `run`, `gen` | the budget of cycles ended the run | none |
 /// | 2 | | the words don't fit the grammar | `ibex: bad words` |
-/// | 3 | both | the files counted a fault | `ibex: cannot read NAME` |
-/// | 4 | both | `out` counted a fault, and holds a prefix of the text | `ibex: cannot write` |
-/// | 5 | both | the file is refused | `ibex: NAME: elf fault K` and the indices of the program headers, or `ibex: NAME: too long` |
-/// | 6 | both | the plan is refused | `ibex: NAME: plan line N KIND`, `ibex: NAME: plan line N too many`, `ibex: NAME: no flip` (`inject`), or `ibex: NAME: too long` |
-/// | 7 | both | there was no memory | `ibex: out of memory` |
+/// | 3 | all but `gen` | the files counted a fault | `ibex: cannot read NAME` |
+/// | 4 | all | `out` counted a fault, and holds a prefix of the text | `ibex: cannot write` |
+/// | 5 | `run`, `inject`, `twin`, `dis` | the file is refused | `ibex: NAME: elf fault K` and the indices of the program headers, or `ibex: NAME: too long` |
+/// | 6 | `run`, `inject`, `twin` | the plan is refused | `ibex: NAME: plan line N KIND`, `ibex: NAME: plan line N too many`, `ibex: NAME: no flip` (`inject`), or `ibex: NAME: too long` |
+/// | 7 | all | there was no memory | `ibex: out of memory` |
 /// | 8 | `inject` | there was an alert | none |
+/// | 9 | `twin` | the views differ, and the cycles are the same before that | none |
+/// | 12 | `asm` | the text is refused | `ibex: NAME: asm line N KIND` or `ibex: NAME: text too long` |
 ///
-/// The plan is read and followed before the file is read. A fault of `err` leaves a prefix of the line there and changes
-/// nothing else. All memory is taken before the first step. The seal of a run is the sum over main's fields in the state
-/// that its steps leave, modulo 2^64; else it is 0. (Statuses, lines and formats are our own rules.)
+/// The plan is read and followed before a file is read, and the first file is read and checked before the second. A fault
+/// of `err` leaves a prefix of the line there and changes nothing else. All memory is taken before the first step. The
+/// seal of a run is the sum over main's fields in the state that its steps leave, modulo 2^64; that of a comparison is this
+/// of both runs, added; else it is 0. (Statuses, lines and formats are our own rules.)
 pub fn ibex<F: Files, K: Sink, E: Sink>(
     alloc: Global,
     words: &[String],
@@ -86,8 +111,8 @@ pub fn ibex<F: Files, K: Sink, E: Sink>(
 ) -> Status
     // The statuses that the command has.
     ensures codes { IsOneOf (codes_of (command_of (map string_bytes words.now))) result.code }
-    // The seal is 0 but for a run.
-    ensures unsealed { IsOneOf (2 ∷ 3 ∷ 4 ∷ 5 ∷ 6 ∷ 7 ∷ 8 ∷ []) result.code → result.seal ≡ 0 }
+    // The seal is 0 but for a run and a comparison.
+    ensures unsealed { IsOneOf (2 ∷ 3 ∷ 4 ∷ 5 ∷ 6 ∷ 7 ∷ 8 ∷ 12 ∷ []) result.code → result.seal ≡ 0 }
 
     // Status 2 comes exactly where the words don't fit, and then the files aren't touched.
     ensures bad_words { (result.code ≡ 2) ↔ (command_of (map string_bytes words.now) ≡ None) }
@@ -104,15 +129,15 @@ pub fn ibex<F: Files, K: Sink, E: Sink>(
         → Says (E.taken err.old) (E.taken err.new) (E.faults err.old) (E.faults err.new) out_of_memory_line }
 
     // What is left alone. Where the names are told and each name in the words is there, none is missed.
-    ensures silent { IsOneOf (2 ∷ 3 ∷ 5 ∷ 6 ∷ 7 ∷ []) result.code → out.new ≡ out.old }
-    ensures quiet { IsOneOf (0 ∷ 1 ∷ 8 ∷ []) result.code → err.new ≡ err.old }
+    ensures silent { IsOneOf (2 ∷ 3 ∷ 5 ∷ 6 ∷ 7 ∷ 12 ∷ []) result.code → out.new ≡ out.old }
+    ensures quiet { IsOneOf (0 ∷ 1 ∷ 8 ∷ 9 ∷ []) result.code → err.new ≡ err.old }
     ensures kept { F.contents files.new ≡ F.contents files.old }
     ensures misses { AreThere (F.contents files.old) (names_of (command_of (map string_bytes words.now)))
         → F.misses files.new ≡ F.misses files.old }
 
-    // Statuses 0, 1, 5, 6 and 8 are those of the answer to the bytes of the files, with its whole text and line. Where
-    // the bytes aren't told, it is that to some bytes.
-    ensures answered { IsOneOf (0 ∷ 1 ∷ 5 ∷ 6 ∷ 8 ∷ []) result.code → (answer : Answer)
+    // Statuses 0, 1, 5, 6, 8, 9 and 12 are those of the answer to the bytes of the files, with its whole text and line.
+    // Where the bytes aren't told, it is that to some bytes.
+    ensures answered { IsOneOf (0 ∷ 1 ∷ 5 ∷ 6 ∷ 8 ∷ 9 ∷ 12 ∷ []) result.code → (answer : Answer)
         × (IsAnswer (F.contents files.old) (command_of (map string_bytes words.now)) answer
         × (Gives answer result.code result.seal (K.taken out.old) (K.taken out.new)
         × Says (E.taken err.old) (E.taken err.new) (E.faults err.old) (E.faults err.new) answer.line)) }
@@ -120,6 +145,11 @@ pub fn ibex<F: Files, K: Sink, E: Sink>(
     // Of `inject`: the bus doesn't differ without an alert, which comes at most two cycles after the first difference.
     ensures noticed { IfInject (command_of (map string_bytes words.now)) (IsOneOf (0 ∷ 8 ∷ []) result.code
         → Notices result.code (K.taken out.old) (K.taken out.new)) }
+
+    // Of `twin`: the cycles of both stories are the same as far as the answer says that the views are.
+    ensures in_time { IfTwin (command_of (map string_bytes words.now)) (λ first second plan options.
+        IsOneOf (0 ∷ 9 ∷ []) result.code → TellsTime (F.contents files.old) first second plan options result.code
+        (K.taken out.old) (K.taken out.new)) }
 
     // Where the bytes are told, and neither files nor `out` count a fault, nothing but want of memory comes in place of
     // the answer.

@@ -9,13 +9,13 @@ use arrayvec::ArrayString;
 use bitflags::Flags;
 use ibx_base::{Failed, Sink, write_all};
 use ibx_compare::Verdict;
+use ibx_digits::Digits;
 use ibx_isa::Alerts;
-use itoa::Buffer;
 
-/// A line, which has at most 46 bytes.
+// A line, which has at most 46 bytes.
 type Line = ArrayString<48>;
 
-/// The names of the alerts of a set.
+// The names of the alerts of a set.
 #[tactic(auto, unfolding(crate::specs::Verdicts::kinds_text))]
 fn kinds_text(alerts: Alerts) -> &'static str
     ensures text { result.now ≡ kinds_text_lem alerts }
@@ -36,7 +36,7 @@ fn kinds_text(alerts: Alerts) -> &'static str
     }
 }
 
-/// The line of the first cycle in which the bus differs.
+// The line of the first cycle in which the bus differs.
 #[tactic(auto, unfolding(crate::specs::Verdicts::diff_line))]
 fn diff_line(first: Option<u64>) -> Line
     ensures { result.bytes ≡ diff_line_lem first }
@@ -46,14 +46,14 @@ fn diff_line(first: Option<u64>) -> Line
         None => text.push_str("diff none\n"),
         Some(cycle) => {
             text.push_str("diff ");
-            text.push_str(Buffer::new().format(cycle));
+            text.push_str(Digits::decimal(cycle).as_str());
             text.push_str("\n");
         }
     }
     text
 }
 
-/// The line of the first cycle with an alert.
+// The line of the first cycle with an alert.
 #[tactic(auto, unfolding(crate::specs::Verdicts::alert_line))]
 fn alert_line(first: Option<(u64, Alerts)>) -> Line
     ensures { result.bytes ≡ alert_line_lem first }
@@ -63,7 +63,7 @@ fn alert_line(first: Option<(u64, Alerts)>) -> Line
         None => text.push_str("alert none\n"),
         Some((cycle, alerts)) => {
             text.push_str("alert ");
-            text.push_str(Buffer::new().format(cycle));
+            text.push_str(Digits::decimal(cycle).as_str());
             text.push_str(" ");
             text.push_str(kinds_text(alerts));
             text.push_str("\n");
@@ -72,7 +72,7 @@ fn alert_line(first: Option<(u64, Alerts)>) -> Line
     text
 }
 
-/// Writes the line of the first difference.
+// Writes the line of the first difference.
 fn print_diff<K: Sink>(verdict: &Verdict, out: &mut K) -> Result<(), Failed>
     ensures whole { OnOk result
         (K.taken out.new ≡ with_more (K.taken out.old) (diff_line_lem verdict.now.first_diff)) }
@@ -84,7 +84,7 @@ fn print_diff<K: Sink>(verdict: &Verdict, out: &mut K) -> Result<(), Failed>
     write_all(out, text.as_str().as_bytes())
 }
 
-/// Writes the line of the first alert.
+// Writes the line of the first alert.
 fn print_alert<K: Sink>(verdict: &Verdict, out: &mut K) -> Result<(), Failed>
     ensures whole { OnOk result
         (K.taken out.new ≡ with_more (K.taken out.old) (alert_line_lem verdict.now.first_alert)) }

@@ -1,10 +1,8 @@
 use Rattle.std.proofs.Common.{◌≡◌, refl, ap, ◌∙◌, Option}
 use Rattle.std.specs.Prelude.{is_some}
-use Rattle.ibx_elf.specs.declared.ram.Ram.{Ram}
 use Rattle.ibx_plan.specs.declared.site.Flip.{Flip}
 use Rattle.ibx_core.specs.declared.state.State.{State}
 use Rattle.ibx_flips.specs.System.{Whole}
-use Rattle.ibx_soc.specs.First.{first}
 use Rattle.ibx_base.specs.Sinks.{with_more}
 use Rattle.ibx_compare.specs.declared.flipped.Verdict.{Verdict}
 use Rattle.ibx_top.specs.Verdicts.{verdict_text, verdict_by, verdict_of, system_of}
@@ -17,7 +15,7 @@ returns-in-Ok-print_verdict-clause-prints g c =
     let image = c.args.image.now in
     let plan = c.args.plan.now in
     let before = g.K.Sink.taken c.args.out.now in
-    let opened : c.in-Ok.clean ≡ system_of image options plan = c.in-Ok.ensures.first ∙ ap (λ (ram : Ram). first image (record { ram = ram; mul = options.mul }) plan) c.ram.ensures.handed_in in
+    let opened : c.in-Ok.clean ≡ system_of image options plan = c.in-Ok.ensures.first in
     let same : c.compare-verdict.result ≡ verdict_of image options plan =
     c.compare-verdict.ensures.value ∙ ap (λ (w : Whole State). verdict_by w options.cycles c.flip.result) opened
     ∙ ap (λ (f : Option Flip). verdict_by (system_of image options plan) options.cycles f) c.flip.ensures

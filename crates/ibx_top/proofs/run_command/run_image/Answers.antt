@@ -1,9 +1,7 @@
 use Rattle.std.proofs.Common.{◌≡◌, ◌<◌, ◌^◌, ℕ, List, refl, sym, ap, subst, ◌∙◌, arith}
-use Rattle.ibx_elf.specs.declared.ram.Ram.{Ram}
 use Rattle.ibx_core.specs.declared.state.State.{State}
 use Rattle.ibx_flips.specs.System.{Whole}
 use Rattle.ibx_base.specs.Sinks.{with_more, TookPrefix}
-use Rattle.ibx_soc.specs.First.{first}
 use Rattle.ibx_matching.specs.Laws.{IsHistory}
 use Rattle.ibx_compare.specs.Drives.{drive_from}
 use Rattle.ibx_top.specs.Seals.{seal_of}
@@ -20,9 +18,9 @@ returns-in-Ok-drive-clause-prints g c =
     let plan = c.args.plan.now in
     let before = g.K.Sink.taken c.args.out.now in
     let s = setup_of options plan image in
-    let opened : c.in-Ok.soc ≡ system_of image options plan =
-    c.in-Ok.ensures.first ∙ ap (λ (ram : Ram). first image (record { ram = ram; mul = options.mul }) plan) c.ram.ensures.handed_in in
-    let law : IsHistory s c.in-Ok.soc = subst (IsHistory s) (sym opened) (opened_is_history options plan image c.requires.placed) in
+    let opened : c.in-Ok.soc ≡ system_of image options plan = c.in-Ok.ensures.first in
+    let law : IsHistory s c.in-Ok.soc = subst (IsHistory s) (sym opened) (opened_is_history options plan image
+    c.requires.placed) in
     let low : options.cycles < 2 ^ 62 = omega (arith, c.requires.range.most_cycles) in
     let new : c.in-Ok.soc.place.cycle ≡ 0 = ap (λ (w : Whole State). w.place.cycle) c.in-Ok.ensures.as_new.state in
     record {
@@ -37,7 +35,8 @@ returns-in-Ok-drive-clause-prints g c =
                 c.field_sum.ensures ∙ ap seal_of c.main.ensures
                 ∙ ap (λ (w : Whole State). seal_of w.main) c.in-Ok-drive.ensures.state
                 ∙ ap (λ (w : Whole State). seal_of (drive_from options.cycles w).left.main) opened;
-            text = c.in-Ok-drive.ensures.whole ∙ ap (with_more before) (text_is s options.cycles c.in-Ok.soc law low new);
+            text = c.in-Ok-drive.ensures.whole ∙ ap (with_more before) (text_is s options.cycles c.in-Ok.soc law low
+                new);
           },
         ),
       );
@@ -52,9 +51,9 @@ returns-clause-prints g c =
     let image = c.args.image.now in
     let plan = c.args.plan.now in
     let s = setup_of options plan image in
-    let opened : c.in-Ok.soc ≡ system_of image options plan =
-    c.in-Ok.ensures.first ∙ ap (λ (ram : Ram). first image (record { ram = ram; mul = options.mul }) plan) c.ram.ensures.handed_in in
-    let law : IsHistory s c.in-Ok.soc = subst (IsHistory s) (sym opened) (opened_is_history options plan image c.requires.placed) in
+    let opened : c.in-Ok.soc ≡ system_of image options plan = c.in-Ok.ensures.first in
+    let law : IsHistory s c.in-Ok.soc = subst (IsHistory s) (sym opened) (opened_is_history options plan image
+    c.requires.placed) in
     let low : options.cycles < 2 ^ 62 = omega (arith, c.requires.range.most_cycles) in
     let new : c.in-Ok.soc.place.cycle ≡ 0 = ap (λ (w : Whole State). w.place.cycle) c.in-Ok.ensures.as_new.state in
     record {
@@ -67,7 +66,8 @@ returns-clause-prints g c =
           record {
             runs = runs_or_spends (timed_story s options.cycles).halted;
             text =
-                subst (λ (text : List ℕ). TookPrefix (g.K.Sink.taken c.args.out.now) text (g.K.Sink.taken c.drive.new.out))
+                subst (λ (text : List ℕ). TookPrefix (g.K.Sink.taken c.args.out.now) text
+                (g.K.Sink.taken c.drive.new.out))
                 (text_is s options.cycles c.in-Ok.soc law low new) c.in-Err.ensures.prefix;
           },
         ),

@@ -8,7 +8,8 @@ use Rattle.ibx_top.proofs.task.do_planned.Goals as goal
 
 pub returns-in-Err-TooLong-clause-prints : goal.returns-in-Err-TooLong-clause-prints
 returns-in-Err-TooLong-clause-prints g c =
-    let (text, (content, more)) = longer_content (g.F.Files.contents c.args.files.now) c.args.plan.now plan_limit (c.read_all.ensures.too_long (c.in-Err-TooLong.is ∙ ap Err c.in-Err-TooLong.field-0-is)) in
+    let (text, (content, more)) = longer_content (g.F.Files.contents c.args.files.now) c.args.plan.now plan_limit
+    (c.read_all.ensures.too_long (c.in-Err-TooLong.is ∙ ap Err c.in-Err-TooLong.field-0-is)) in
     let answer : Answer = planned_answer c.args.task c.args.name.now c.args.plan.now c.args.options text [] in
     let same = long_planned c.args.task c.args.name.now c.args.plan.now c.args.options text [] more in
     record {
@@ -16,7 +17,8 @@ returns-in-Err-TooLong-clause-prints g c =
         answer,
         (
           (text, (content, ([], (inl (ap (λ (a : Answer). a.code) same), refl)))),
-          settles_refusal 6 answer (PlanTooLong c.args.plan) (too_long_line c.args.plan.now) (g.K.Sink.taken c.args.out.now) same refl refl refl,
+          settles_refusal 6 answer (PlanTooLong c.args.plan) (too_long_line c.args.plan.now)
+              (g.K.Sink.taken c.args.out.now) same refl refl refl,
         ),
       );
       write_fault = tt;

@@ -15,25 +15,32 @@ returns-in-Ok-clause-prints g c =
     let options = c.args.options in
     let planned = c.in-Ok.planned in
     let text = c.args.text.now in
-    let fits : plan_of (bounds_of c.args.task options) text ≡ Ok planned = subst (λ (b : Bounds). plan_of b text ≡ Ok planned) c.bounds_of.ensures c.in-Ok.ensures.value in
-    prints_weaker g.K.Sink.taken g.K.Sink.faults (IsAnswerTo told c.args.name.now (file_answer c.args.name.now options.ram (done c.args.task options planned)))
-    (IsPlannedBy told c.args.task c.args.name.now c.args.plan.now options text) c.do_plan.result c.args.out.now c.do_plan.new.out
-    (λ answer is. followed told c.args.task c.args.name.now c.args.plan.now options text planned answer c.requires.fits fits is) c.do_plan.ensures.prints
+    let fits : plan_of (bounds_of c.args.task options) text ≡ Ok planned = subst (λ (b : Bounds). plan_of b text ≡ Ok
+    planned) c.bounds_of.ensures c.in-Ok.ensures.value in
+    prints_weaker g.K.Sink.taken g.K.Sink.faults (IsAnswerTo told c.args.name.now
+    (file_answer c.args.name.now options.ram (done c.args.task options planned)))
+    (IsPlannedBy told c.args.task c.args.name.now c.args.plan.now options text) c.do_plan.result c.args.out.now
+    c.do_plan.new.out
+    (λ answer is. followed told c.args.task c.args.name.now c.args.plan.now options text planned answer c.requires.fits
+    fits is) c.do_plan.ensures.prints
 
 pub returns-in_default-clause-prints : goal.returns-in_default-clause-prints
 returns-in_default-clause-prints g c =
     let options = c.args.options in
     let text = c.args.text.now in
     let fault = c.in-Err.fault in
-    let said : Fails fault (plan_of (bounds_of c.args.task options) text) = subst (λ (b : Bounds). Fails fault (plan_of b text)) c.bounds_of.ensures c.in-Err.ensures.value in
+    let said : Fails fault (plan_of (bounds_of c.args.task options) text) = subst
+    (λ (b : Bounds). Fails fault (plan_of b text)) c.bounds_of.ensures c.in-Err.ensures.value in
     let answer : Answer = planned_answer c.args.task c.args.name.now c.args.plan.now options text [] in
-    let same = bad_planned c.args.task c.args.name.now c.args.plan.now options text [] fault c.requires.fits (fault_is fault (plan_of (bounds_of c.args.task options) text) c.in_default.not-Memory said) in
+    let same = bad_planned c.args.task c.args.name.now c.args.plan.now options text [] fault c.requires.fits
+    (fault_is fault (plan_of (bounds_of c.args.task options) text) c.in_default.not-Memory said) in
     record {
       answered = (
         answer,
         (
           ([], (inl (ap (λ (a : Answer). a.code) same), refl)),
-          settles_refusal 6 answer (PlanRefused c.args.plan fault) (plan_fault_line c.args.plan.now fault) (g.K.Sink.taken c.args.out.now) same refl refl refl,
+          settles_refusal 6 answer (PlanRefused c.args.plan fault) (plan_fault_line c.args.plan.now fault)
+              (g.K.Sink.taken c.args.out.now) same refl refl refl,
         ),
       );
       write_fault = tt;

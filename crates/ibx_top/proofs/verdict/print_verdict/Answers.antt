@@ -8,5 +8,7 @@ returns-clause-prefix g c =
     let taken = g.K.Sink.taken in
     on_err_weaker c.print_alert.result
     (λ took.
-    cut_back (taken c.args.out.now) (taken c.print_diff.new.out) (taken c.print_alert.new.out) (diff_line c.args.verdict.now.first_diff) (alert_line c.args.verdict.now.first_alert) c.in_ok-print_diff.ensures.whole took)
+    cut_back (taken c.args.out.now) (taken c.print_diff.new.out) (taken c.print_alert.new.out)
+    (diff_line c.args.verdict.now.first_diff) (alert_line c.args.verdict.now.first_alert)
+    c.in_ok-print_diff.ensures.whole took)
     c.print_alert.ensures.prefix

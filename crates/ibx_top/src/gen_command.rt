@@ -1,0 +1,122 @@
+//! The program that a number gives, run in memory, and what is printed of its run.
+ghost use Rattle.std.specs.Prelude.{◌≡◌, ◌++◌, OnOk, OnErr};
+ghost use Rattle.ibx_base.specs.Counts.{HasCause};
+ghost use Rattle.ibx_base.specs.Sinks.{with_more, TookPrefix};
+ghost use Rattle.ibx_command.specs.Options.{IsInRange};
+ghost use Rattle.ibx_machine.specs.Whole.{IsPlaced};
+ghost use Rattle.ibx_plan.specs.Plan.{empty_plan};
+ghost use Rattle.ibx_trace.specs.Lines.{end_line_of};
+ghost use Rattle.ibx_top.specs.Answers.{generated_by, setup_of, summed_by};
+ghost use Rattle.ibx_top.specs.Generated.{sum_lines as sum_lines_lem};
+ghost use Rattle.ibx_top.specs.Outcomes.{IsPastReading, Prints};
+
+use crate::bytes::are_bytes;
+use crate::driving::print_end;
+use crate::outcome::Outcome;
+use crate::seal::field_sum;
+use crate::system::open_system;
+use crate::totals::{Total, run_total};
+use arrayvec::ArrayString;
+use ibx_base::{Failed, Sink, write_all};
+use ibx_command::Options;
+use ibx_digits::Digits;
+use ibx_elf::{Image, Ram, load};
+use ibx_gen::generate;
+use ibx_plan::Plan;
+use std::alloc::Global;
+
+// The memory of the run, that of a run without options: 1 MiB from 0x0010_0000 on.
+const RAM: Ram = Ram {
+    base: 0x0010_0000,
+    size: 0x0010_0000,
+};
+
+// Two lines, which have at most 33 bytes.
+type Lines = ArrayString<48>;
+
+// The line of the number with the count of its program's words, and the line of the sum.
+#[tactic(auto, unfolding(crate::specs::Generated::sum_lines))]
+fn sum_lines(seed: u32, sum: u32) -> Lines
+    ensures { result.bytes ≡ sum_lines_lem seed sum }
+{
+    let mut text = Lines::new();
+    text.push_str("gen ");
+    text.push_str(Digits::decimal(u64::from(seed)).as_str());
+    text.push_str(" 4105\nsum ");
+    text.push_str(Digits::hexadecimal(sum, 8).as_str());
+    text.push_str("\n");
+    text
+}
+
+// Writes the first two lines.
+fn print_sum<K: Sink>(seed: u32, sum: u32, out: &mut K) -> Result<(), Failed>
+    ensures whole { OnOk result (K.taken out.new ≡ with_more (K.taken out.old) (sum_lines_lem seed sum)) }
+    ensures prefix { OnErr result (TookPrefix (K.taken out.old) (sum_lines_lem seed sum) (K.taken out.new)) }
+    ensures cause { HasCause (K.faults out.old) (K.faults out.new) result }
+{
+    let text = sum_lines(seed, sum);
+    write_all(out, text.as_str().as_bytes())
+}
+
+// Writes all three lines of a run that made so many cycles. `Failed` comes only where the sink counted a fault, and
+// then a prefix of them was taken.
+fn print_total<K: Sink>(seed: u32, total: &Total, cycles: u64, out: &mut K) -> Result<(), Failed>
+    ensures whole { OnOk result (K.taken out.new ≡ with_more (K.taken out.old)
+        (sum_lines_lem seed total.now.sum ++ end_line_of total.now.halted cycles total.now.events)) }
+    ensures prefix { OnErr result (TookPrefix (K.taken out.old)
+        (sum_lines_lem seed total.now.sum ++ end_line_of total.now.halted cycles total.now.events) (K.taken out.new)) }
+    ensures cause { HasCause (K.faults out.old) (K.faults out.new) result }
+{
+    print_sum(seed, total.sum, out)?;
+    print_end(total.halted, cycles, total.events, out)
+}
+
+// Runs the image of a number's program on two cores in lockstep, and writes what it comes to.
+fn run_seed<'w, K: Sink>(
+    alloc: Global,
+    seed: u32,
+    image: &Image<'_>,
+    options: Options,
+    out: &mut K,
+) -> Outcome<'w>
+    requires range { IsInRange options }
+    requires placed { IsPlaced (setup_of options empty_plan image.now) }
+    ensures past { IsPastReading result }
+    ensures prints { Prints K.taken K.faults (λ answer. answer ≡ summed_by seed options image.now) result
+        out.old out.new }
+{
+    let plan = Plan::empty(alloc);
+    let Ok(mut soc) = open_system(alloc, image, options, &plan) else {
+        return Outcome::OutOfMemory;
+    };
+    let total = run_total(&mut soc, options.cycles);
+    match print_total(seed, &total, soc.cycle(), out) {
+        Ok(()) => Outcome::Ran {
+            halted: total.halted,
+            seal: field_sum(soc.main()),
+        },
+        Err(Failed) => Outcome::CannotWrite,
+    }
+}
+
+/// Makes the file that a number gives, runs it in the memory of a run without options and without a plan, and writes
+/// what the run comes to. The file is never refused.
+pub(crate) fn do_seed<'w, K: Sink>(
+    alloc: Global,
+    seed: u32,
+    options: Options,
+    out: &mut K,
+) -> Outcome<'w>
+    requires { IsInRange options }
+    ensures past { IsPastReading result }
+    ensures prints { Prints K.taken K.faults (λ answer. answer ≡ generated_by seed options) result out.old out.new }
+{
+    let Ok(file) = generate(alloc, seed) else {
+        return Outcome::OutOfMemory;
+    };
+    are_bytes(&file);
+    let Ok(image) = load(&file, RAM) else {
+        unreachable!()
+    };
+    run_seed(alloc, seed, &image, options, out)
+}
