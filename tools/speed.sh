@@ -1,7 +1,8 @@
 #!/usr/bin/env bash
-# Times the command `inject` on compiled firmware with a flip in its last cycle, in this program and in another one with
-# the same command, whose path is the first argument: three runs of each in turn, the best of which counts. The cycles of
-# both systems are counted once. Not part of the gate, since times depend on the machine.
+# Times two commands in this program and in another one with the same commands, whose path is the first argument: `inject`
+# on compiled firmware with a flip in its last cycle, and `gen 1`. Each has three runs of each program in turn, the best of
+# which counts. The cycles of both systems of an injection are counted once. Not part of the gate, since times depend on
+# the machine.
 set -eu
 if [ $# != 1 ] || [ ! -x "$1" ]; then
     echo "usage: tools/speed.sh PROGRAM"
@@ -17,9 +18,9 @@ plan=$(mktemp)
 trap 'rm -f "$plan"' EXIT
 echo "flip $((cycles - 1)) main mscratch 0" >"$plan"
 
-# The milliseconds of the processor that one run takes.
+# The milliseconds of the processor and the KiB of memory that a program with these words takes.
 taken() {
-    python3 - "$1" inject "$firmware" --plan "$plan" --cycles "$cycles" <<'PYTHON'
+    python3 - "$@" <<'PYTHON'
 import resource, subprocess, sys
 
 subprocess.run(sys.argv[1:], stdout=subprocess.DEVNULL, check=False)
@@ -28,13 +29,19 @@ print(round(1000 * (used.ru_utime + used.ru_stime)), used.ru_maxrss)
 PYTHON
 }
 
-best_ours=0
-best_other=0
-for _ in 1 2 3; do
-    read -r time memory <<<"$(taken "$ours")"
-    [ "$best_ours" != 0 ] && [ "$time" -ge "$best_ours" ] || best_ours=$time
-    read -r time other_memory <<<"$(taken "$other")"
-    [ "$best_other" != 0 ] && [ "$time" -ge "$best_other" ] || best_other=$time
-done
-echo "ours:  $best_ours ms for $cycles cycles, $((cycles / best_ours)) cycles a millisecond, $memory KiB"
-echo "other: $best_other ms for $cycles cycles, $((cycles / best_other)) cycles a millisecond, $other_memory KiB"
+# Times both programs with these words: the name of what is timed, and its cycles; then the words.
+compare() {
+    local name=$1 cycles=$2 best_ours=0 best_other=0 time memory other_memory
+    shift 2
+    for _ in 1 2 3; do
+        read -r time memory <<<"$(taken "$ours" "$@")"
+        [ "$best_ours" != 0 ] && [ "$time" -ge "$best_ours" ] || best_ours=$time
+        read -r time other_memory <<<"$(taken "$other" "$@")"
+        [ "$best_other" != 0 ] && [ "$time" -ge "$best_other" ] || best_other=$time
+    done
+    echo "ours:  $name, $best_ours ms for $cycles cycles, $((cycles / best_ours)) cycles a millisecond, $memory KiB"
+    echo "other: $name, $best_other ms for $cycles cycles, $((cycles / best_other)) cycles a millisecond, $other_memory KiB"
+}
+
+compare inject "$cycles" inject "$firmware" --plan "$plan" --cycles "$cycles"
+compare "gen 1" 232764 gen 1

@@ -60,6 +60,19 @@ write("told.plan", b"flip 4 main id_word 15\n")
 write("unread.plan", b"flip 3 reg 31 0\n")
 write("none.plan", b"iwait 1 0\n")
 
+
+
+# A division by a secret, the last word, after a word that makes times equal (csrrsi x0, cpuctrl, 2) or an idle one.
+def dividing(first, by):
+    words = [first, 0x00100537, 0x0A052403, 0x028544B3, 0x00020337, 0x00100393, 0x00732423, 0, by]
+    code = struct.pack("<9I", *words)
+    return file_header(BASE, 1) + program_header(1, 84, BASE, len(code), len(code), 7, 4) + code
+
+
+write("even7.elf", dividing(0x7C016073, 7))
+write("even0.elf", dividing(0x7C016073, 0))
+write("uneven7.elf", dividing(0x00000013, 7))
+write("uneven0.elf", dividing(0x00000013, 0))
 write("cut.elf", one(BASE, BASE)[:51])
 write("odd.elf", one(BASE + 1, BASE))
 write("far.elf", one(BASE, 0x00200000))
@@ -197,8 +210,77 @@ row "a plan with two flips" 6 "" "ibex: twice.plan: plan line 3 flip
 " "$ibex" inject store.elf --plan twice.plan
 row "a long plan" 6 "" "ibex: long.plan: too long
 " "$ibex" inject store.elf --plan long.plan
+row "a division by a secret in even time" 0 "same 7
+" "" "$ibex" twin even7.elf even0.elf
+row "a division by a secret" 9 "differ 3
+a R 0010008c 028544b3 op=00100000,00000007
+b R 0010008c 028544b3 op=00100000,00000000
+" "" "$ibex" twin uneven7.elf uneven0.elf
+row "one file to compare" 2 "" "ibex: bad words
+" "$ibex" twin even7.elf
+row "a missing second file" 3 "" "ibex: cannot read missing.elf
+" "$ibex" twin even7.elf missing.elf
+row "a refused second file" 5 "" "ibex: cut.elf: elf fault 1
+" "$ibex" twin even7.elf cut.elf
+row "a comparison to a full output" 4 "" "ibex: cannot write
+" to_full twin even7.elf even0.elf
+row "a comparison with a flip" 6 "" "ibex: noticed.plan: plan line 1 flip
+" "$ibex" twin even7.elf even0.elf --plan noticed.plan
+row "the program of 0" 0 "gen 0 4105
+sum 00130089
+E halt 65624 65604
+" "" "$ibex" gen 0
+row "the program of 1" 0 "gen 1 4105
+sum a403ec42
+E halt 232764 59392
+" "" "$ibex" gen 1
+row "the program of the largest number" 0 "gen 4294967295 4105
+sum 70014608
+E halt 246792 59944
+" "" "$ibex" gen 4294967295
+row "a spent budget of a program" 1 "gen 5 4105
+sum d575e011
+E budget 100 13
+" "" "$ibex" gen 5 --mul slow --cycles 100
+row "a number that is too large" 2 "" "ibex: bad words
+" "$ibex" gen 4294967296
+row "a program with a plan" 2 "" "ibex: bad words
+" "$ibex" gen 1 --plan noticed.plan
+row "a program to a full output" 4 "" "ibex: cannot write
+" to_full gen 5 --cycles 100
 row "65,534 program headers" 0 "${steps}E halt 6 3
 " "" timeout 10 "$ibex" run many.elf --ram-size 0x1000000
+
+# The sample's text, and texts that are refused.
+code="lui x6, 0x00020
+addi x7, x0, 1
+sw x7, 8(x6)
+"
+printf '%s' "$code" >store.s
+printf '# no such mnemonic\nmov x1, x2\n' >word.s
+printf 'addi x7, x0, 2048\n' >range.s
+printf 'c.j nowhere\n' >label.s
+truncate -s $((4 * 1024 * 1024 + 1)) long.s
+assembles_to_sample() { "$ibex" asm store.s >made.elf && cmp made.elf store.elf; }
+row "a text's file" 0 "" "" assembles_to_sample
+row "a file's text" 0 "# 0x00100080
+$code" "" "$ibex" dis store.elf
+row "a text to a full output" 4 "" "ibex: cannot write
+" to_full asm store.s
+row "a file's text to a full output" 4 "" "ibex: cannot write
+" to_full dis store.elf
+row "a missing text" 3 "" "ibex: cannot read missing.s
+" "$ibex" asm missing.s
+row "a file outside the RAM of its words" 5 "" "ibex: store.elf: elf fault 11 0
+" "$ibex" dis store.elf --ram-base 0x200000
+row "a line that is no instruction" 12 "" "ibex: word.s: asm line 2 word
+" "$ibex" asm word.s
+row "an immediate out of range" 12 "" "ibex: range.s: asm line 1 range
+" "$ibex" asm range.s
+row "a label that is nowhere" 12 "" "ibex: label.s: asm line 1 label
+" "$ibex" asm label.s
+row "a long text" 12 "" "ibex: long.s: text too long
+" "$ibex" asm long.s
 
 echo "statuses: $passed passed, $failed failed"
 [ "$failed" = 0 ]
