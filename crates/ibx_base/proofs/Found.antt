@@ -10,12 +10,13 @@ use Rattle.std.proofs.lemmas.Slice.Eq.{bytes_eq-Decides}
 use Rattle.ibx_base.specs.MemFiles.{Entry, is_named, content_of, Finds}
 
 module _ (entries : List Entry) (name : List ℕ) where
-  -- the search ends at the list's end where no entry has the name, and else at one that has it
+  -- a search that runs to the list's end finds no content for the name
   missing : length entries ≤ position_or_len (is_named name) entries → Finds entries name None
   unfolding content_of
   missing past = ap (option_map (λ (e : Entry). e.bytes))
       (find_at (is_named name) entries ∙ slice_get_past entries (position_or_len (is_named name) entries) past)
 
+  -- where the entry at which the search stops has the name, it is found there with its bytes
   located : (e : Entry) → slice_get entries (position_or_len (is_named name) entries) ≡ Some e → is_named name e ≡ true
       → Finds entries name (Some (position_or_len (is_named name) entries))
   unfolding content_of

@@ -9,10 +9,12 @@ append-none : (xs : List ℕ) → xs ++ [] ≡ xs
 append-none [] = refl
 append-none (x ∷ xs) = ap (λ (l : List ℕ). x ∷ l) (append-none xs)
 
+-- a list that isn't longer than none has no element
 empty : (xs : List ℕ) → (0 < length xs → ⊥) → xs ≡ []
 empty [] h = refl
 empty (x ∷ xs) h = absurd (h (omega arith))
 
+-- the front of a buffer that was read into is what the read took from the file
 take_at_front : (left buffer : List ℕ) (count : ℕ) → count ≤ length left
     → take count (take count left ++ drop count buffer) ≡ take count left
 take_at_front left buffer count within =

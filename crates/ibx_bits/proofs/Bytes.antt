@@ -34,6 +34,7 @@ byte-shr x o k = rw (div-div-eq-div-mul x (256 ^ o) (256 ^ k), ← pow-add 256 o
 pub byte-shl_above : (w o k : ℕ) → word_byte (w * 256 ^ o) (o + k) ≡ word_byte w k
 byte-shl_above w o k = sym (byte-shr (w * 256 ^ o) o k) ∙ ap (λ (x : ℕ). word_byte x k) (mul-div_cancel w (byte_pos o))
 
+-- and every byte below the place that it was moved to is zero
 pub byte-shl_below : (w d p : ℕ) → word_byte (w * 256 ^ (suc d + p)) p ≡ 0
 byte-shl_below w d p =
     let split : w * 256 ^ (suc d + p) ≡ w * 256 ^ d * 256 * 256 ^ p =
@@ -50,6 +51,7 @@ byte-cut_inside v k d =
     rw (field, pow-suc 256 d, mod-mul (v / 256 ^ k) {m = 256 ^ d} {c = 256} (byte_pos d) (omega arith))
     (mod-mul-add (v / 256 ^ k / 256 % 256 ^ d) 256 (v / 256 ^ k % 256) (mod_below (v / 256 ^ k) 256 (omega arith)))
 
+-- from byte s on a number that was cut to s bytes has zeros
 pub byte-cut_outside : (v k s : ℕ) → s ≤ k → word_byte (v % 256 ^ s) k ≡ 0
 byte-cut_outside v k s le =
     let below : v % 256 ^ s < 256 ^ k =

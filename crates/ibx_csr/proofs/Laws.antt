@@ -35,6 +35,7 @@ put_cfg-values s k w =
     by_number k 3 _ _ (λ e. rw e refl) λ n3.
     (rw (set_past (cfgs s) k w (omega arith)) refl)
 
+-- an address goes to the register of its number, and one past the sixteen goes nowhere
 put_addr-values : (s : Csrs) (k w : ℕ)
     → values (put_addr s k w) ≡ record (values s) { pmpaddr = slice_set (addrs s) k w }
 unfolding values
@@ -72,10 +73,12 @@ put-values s (Pmpcfg k) w = put_cfg-values s k (stored_cfg (slice_index (cfgs s)
 put-values s (Pmpaddr k) w = unless_locked s k w (is_addr_locked (cfg_bytes (values s)) k)
 put-values s _ w = refl
 
+-- where there is no register to write, neither the fields nor the registers change
 put_at-values : (s : Csrs) (w : ℕ) (o : Option Csr) → values (put_at s w o) ≡ put_value_at (values s) w o
 put_at-values s w (Some c) = put-values s c w
 put_at-values s w None = refl
 
+-- a write to an address does to the fields what it does to the registers, in either mode
 pub write-values : (s : Csrs) (a w : ℕ) → values (write_of s a w) ≡ csr_write (values s) a w
 unfolding values write_of csr_write
 write-values s a w = put_at-values s w (writable s.priv_ a)
@@ -88,7 +91,7 @@ addr-stays v k d w lines true ne = refl
 addr-stays v k (Pmpaddr j) w lines false ne = get_or-set_other v.pmpaddr k j w 0 (λ e. ne (ap Pmpaddr (sym e)))
 addr-stays v k _ w lines false ne = refl
 
--- a write to one register leaves the others, and the mode
+-- a write of a word to one register leaves what each other register reads
 stays : (v : CsrValues) (c d : Csr) (w lines : ℕ) → w < 2 ^ 32 → c ≢ d
     → value_of (put_value v c w) d lines ≡ value_of v d lines
 unfolding put_value value_of
@@ -140,15 +143,17 @@ put-machine v (Pmpaddr k) w =
     elim (cases_Bool (is_addr_locked (cfg_bytes v) k)) [ inl e ↦ rw e refl | inr e ↦ rw e refl ]
 put-machine v _ w = refl
 
+-- nor does a write where there may be no register to take it
 put_at-machine : (v : CsrValues) (w : ℕ) (o : Option Csr) → (put_value_at v w o).machine ≡ v.machine
 put_at-machine v w (Some c) = put-machine v c w
 put_at-machine v w None = refl
 
+-- whatever address an instruction writes, it stays in its mode
 pub write-machine : (v : CsrValues) (a w : ℕ) → (csr_write v a w).machine ≡ v.machine
 unfolding csr_write
 write-machine v a w = put_at-machine v w (writable v.machine a)
 
--- whether an address reads as something depends on the mode and on it alone
+-- a read gives a value exactly where there is a register, whatever the registers hold
 known_by : (v : CsrValues) (lines : ℕ) (o : Option Csr) → is_some (value_at v lines o) ≡ is_there o
 known_by v lines None = refl
 known_by v lines (Some c) = refl
@@ -158,6 +163,7 @@ pub read-known : (v : CsrValues) (a lines : ℕ) → is_some (csr_read v a lines
 unfolding csr_read
 read-known v a lines = known_by v lines (readable v.machine a)
 
+-- in one mode an address can be read at all values of the registers and lines, or at none
 pub read-alike : (v w : CsrValues) (a k l : ℕ) → v.machine ≡ w.machine
     → is_some (csr_read v a k) ≡ is_some (csr_read w a l)
 read-alike v w a k l e = read-known v a k ∙ ap (λ (m : Bool). is_there (readable m a)) e ∙ sym (read-known w a l)

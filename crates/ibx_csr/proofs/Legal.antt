@@ -16,6 +16,7 @@ legal-row r w small =
     (omega (arith, small, and_le_r w r.kept))
     (omega (arith, and_le_r r.value (2 ^ 32 - 1 - r.kept)))
 
+-- whatever number is written, each register holds a word of 32 bits
 pub legal-low : (c : Csr) (w : ℕ) → legal_of c w < 2 ^ 32
 legal-low Mstatus w = legal-row (bits_of Mstatus) w (omega arith)
 legal-low c w = legal-row (bits_of c) w (omega arith)

@@ -21,6 +21,7 @@ neither false b e = (refl, e)
 no_complement : (n m : ℕ) → m ≡ complement n → not (m == complement n) ≡ false
 no_complement n m e = rw (eq-eqb m (complement n) e) refl
 
+-- a pair that passes the test has the complement in its second word
 complement_of : (n m : ℕ) → not (m == complement n) ≡ false → m ≡ complement n
 complement_of n m e = elim (cases_Bool (m == complement n)) [
   | inl h ↦ eqb-true m (complement n) h
@@ -86,6 +87,7 @@ put_cfg-sound s k w h =
     (either (k == 3) _ _ (complemented _ h.trap (replaced (guarded_cfg s) 3 w h.cfg) h.low h.high)
     h)))
 
+-- an address is put into the lower or the upper eight, beside its complement
 put_addr-sound : (s : Csrs) (k w : ℕ) → Complemented s → Complemented (put_addr s k w)
 put_addr-sound s k w h =
     either (k == 0) _ _ (complemented _ h.trap h.cfg (replaced (guarded_low s) 0 w h.low) h.high)
@@ -116,10 +118,12 @@ put-sound s (Pmpcfg k) w h = put_cfg-sound s k _ h
 put-sound s (Pmpaddr k) w h = either (is_addr_locked (cfg_bytes (values s)) k) _ _ h (put_addr-sound s k w h)
 put-sound s _ w h = complemented _ h.trap h.cfg h.low h.high
 
+-- a write keeps the complements also where there is no register to take it
 put_at-sound : (s : Csrs) (w : ℕ) (o : Option Csr) → Complemented s → Complemented (put_at s w o)
 put_at-sound s w (Some c) h = put-sound s c w h
 put_at-sound s w None h = h
 
+-- whatever address is written in whatever mode, no write causes a glitch
 pub write-sound : (s : Csrs) (a w : ℕ) → Complemented s → Complemented (write_of s a w)
 unfolding write_of
 write-sound s a w h = put_at-sound s w (writable s.priv_ a) h

@@ -27,12 +27,14 @@ mask_f3 w =
     ∙ and_block 12 (w / 2 ^ 12) 7 (w % 2 ^ 12) 127 (omega arith) (omega arith)
     ∙ rw (and_mask (w / 2 ^ 12) 3, and_mask (w % 2 ^ 12) 7) (omega arith)
 
+-- with bits 31:25 in the mask, the word keeps its three fields in their places
 mask_f7 : (w : ℕ) → w < 2 ^ 32 → bit_and w 0xfe00707f ≡ w / 33554432 * 33554432 + (w / 4096 % 8 * 4096 + w % 128)
 mask_f7 w h =
     ap (λ (x : ℕ). bit_and x 0xfe00707f) (sym (shr_split w 25))
     ∙ and_block 25 (w / 2 ^ 25) 127 (w % 2 ^ 25) 0x707f (omega arith) (omega arith)
     ∙ rw (and_mask (w / 2 ^ 25) 7, mask_f3 (w % 2 ^ 25)) (omega arith)
 
+-- a mask of 32 ones leaves a word whole
 mask_all : (w : ℕ) → w < 2 ^ 32 → bit_and w 0xffffffff ≡ w
 mask_all w h = and_mask w 32 ∙ omega arith
 
@@ -51,6 +53,7 @@ test_f3 w m h0 h1 =
     (λ e. let p = and_parts (eqb (w % 128) (m % 128)) (eqb (w / 4096 % 8) (m / 4096 % 8)) e in
     eq-eqb _ _ (omega (arith, eqb-true (w % 128) (m % 128) p.0, eqb-true (w / 4096 % 8) (m / 4096 % 8) p.1))))
 
+-- a match of opcode, funct3 and funct7 is three tests, of which the opcode's comes first
 test_f7 : (w m : ℕ) → w < 2 ^ 32 → m < 2 ^ 32 → m / 32768 % 1024 ≡ 0 → m / 128 % 32 ≡ 0
     → eqb (bit_and w 0xfe00707f) m ≡ (eqb (bit_and w 127) (m % 128)
     && (eqb (bit_and (w / 4096) 7) (m / 4096 % 8) && eqb (w / 33554432) (m / 33554432)))
@@ -74,6 +77,7 @@ test_f7 w m h hm h0 h1 =
       eqb-true (w / 33554432) (m / 33554432) q.1,
     ))))
 
+-- a row of one word asks for its opcode as well, so that it counts among the opcode's rows
 test_all : (w m : ℕ) → w < 2 ^ 32 → eqb (bit_and w 0xffffffff) m ≡ (eqb (bit_and w 127) (m % 128) && eqb w m)
 test_all w m h =
     let op : bit_and w 127 ≡ w % 128 = and_mask w 7 in
@@ -167,6 +171,7 @@ by_fields w h (r ∷ rs) e =
       by_fields w h rs p.1,
     ) refl
 
+-- the table of instructions may be searched by opcode, funct3 and funct7
 pub decode_fields : (w : ℕ) → w < 2 ^ 32
     → decode_of w ≡ first_field_fit (bit_and w 127) (bit_and (w / 4096) 7) (w / 33554432) w rows
 unfolding decode_of all_good good_mask has_none
@@ -178,17 +183,21 @@ decode_fields w h = by_fields w h rows refl
 pub lui_rows : (w : ℕ) → w < 2 ^ 32 → bit_and w 127 ≡ 55 → decode_of w ≡ Some (Lui (rd w) (imm_u w))
 lui_rows w h e = decode_fields w h ∙ rw e refl
 
+-- opcode 0x17 alone makes a word AUIPC, whatever else is in it
 pub auipc_rows : (w : ℕ) → w < 2 ^ 32 → bit_and w 127 ≡ 23 → decode_of w ≡ Some (Auipc (rd w) (imm_u w))
 auipc_rows w h e = decode_fields w h ∙ rw e refl
 
+-- JAL has opcode 0x6f to itself, with the offset in the form J
 pub jal_rows : (w : ℕ) → w < 2 ^ 32 → bit_and w 127 ≡ 111 → decode_of w ≡ Some (Jal (rd w) (imm_j w))
 jal_rows w h e = decode_fields w h ∙ rw e refl
 
+-- under opcode 0x67 there is JALR with funct3 0, and nothing else
 pub jalr_rows : (w : ℕ) → w < 2 ^ 32 → bit_and w 127 ≡ 103 → decode_of w ≡
     cond (eqb (bit_and (w / 4096) 7) 0) (Some (Jalr (rd w) (rs1 w) (imm_i w)))
     (None)
 jalr_rows w h e = decode_fields w h ∙ rw e refl
 
+-- six values of funct3 are branches, and 2 and 3 are none
 pub branch_rows : (w : ℕ) → w < 2 ^ 32 → bit_and w 127 ≡ 99 → decode_of w ≡
     cond (eqb (bit_and (w / 4096) 7) 0) (Some (Branch Eq (rs1 w) (rs2 w) (imm_b w)))
     (cond (eqb (bit_and (w / 4096) 7) 1) (Some (Branch Ne (rs1 w) (rs2 w) (imm_b w)))
@@ -199,6 +208,7 @@ pub branch_rows : (w : ℕ) → w < 2 ^ 32 → bit_and w 127 ≡ 99 → decode_o
     (None))))))
 branch_rows w h e = decode_fields w h ∙ rw e refl
 
+-- five values of funct3 are loads, and 3, 6 and 7 are none
 pub load_rows : (w : ℕ) → w < 2 ^ 32 → bit_and w 127 ≡ 3 → decode_of w ≡
     cond (eqb (bit_and (w / 4096) 7) 0) (Some (Load Lb (rd w) (rs1 w) (imm_i w)))
     (cond (eqb (bit_and (w / 4096) 7) 1) (Some (Load Lh (rd w) (rs1 w) (imm_i w)))
@@ -208,6 +218,7 @@ pub load_rows : (w : ℕ) → w < 2 ^ 32 → bit_and w 127 ≡ 3 → decode_of w
     (None)))))
 load_rows w h e = decode_fields w h ∙ rw e refl
 
+-- funct3 0, 1 and 2 store 1, 2 and 4 bytes
 pub store_rows : (w : ℕ) → w < 2 ^ 32 → bit_and w 127 ≡ 35 → decode_of w ≡
     cond (eqb (bit_and (w / 4096) 7) 0) (Some (Store 1 (rs1 w) (rs2 w) (imm_s w)))
     (cond (eqb (bit_and (w / 4096) 7) 1) (Some (Store 2 (rs1 w) (rs2 w) (imm_s w)))
@@ -215,6 +226,7 @@ pub store_rows : (w : ℕ) → w < 2 ^ 32 → bit_and w 127 ≡ 35 → decode_of
     (None)))
 store_rows w h e = decode_fields w h ∙ rw e refl
 
+-- of the computations with an immediate the shifts alone, funct3 1 and 5, look at funct7
 pub op_imm_rows : (w : ℕ) → w < 2 ^ 32 → bit_and w 127 ≡ 19 → decode_of w ≡
     cond (eqb (bit_and (w / 4096) 7) 0) (Some (AluImm Add (rd w) (rs1 w) (imm_i w)))
     (cond (eqb (bit_and (w / 4096) 7) 2) (Some (AluImm Slt (rd w) (rs1 w) (imm_i w)))
@@ -228,6 +240,7 @@ pub op_imm_rows : (w : ℕ) → w < 2 ^ 32 → bit_and w 127 ≡ 19 → decode_o
     (None)))))))))
 op_imm_rows w h e = decode_fields w h ∙ rw e refl
 
+-- funct7 is 0, or 32 for SUB and SRA, or 1 for the multiplications and divisions
 pub op_rows : (w : ℕ) → w < 2 ^ 32 → bit_and w 127 ≡ 51 → decode_of w ≡
     cond (eqb (bit_and (w / 4096) 7) 0 && eqb (w / 33554432) 0) (Some (Alu Add (rd w) (rs1 w) (rs2 w)))
     (cond (eqb (bit_and (w / 4096) 7) 0 && eqb (w / 33554432) 32) (Some (Alu Sub (rd w) (rs1 w) (rs2 w)))
@@ -250,12 +263,14 @@ pub op_rows : (w : ℕ) → w < 2 ^ 32 → bit_and w 127 ≡ 51 → decode_of w 
     (None))))))))))))))))))
 op_rows w h e = decode_fields w h ∙ rw e refl
 
+-- FENCE and FENCE.I are told by funct3, and their other fields are ignored
 pub fence_rows : (w : ℕ) → w < 2 ^ 32 → bit_and w 127 ≡ 15 → decode_of w ≡
     cond (eqb (bit_and (w / 4096) 7) 0) (Some (Fence))
     (cond (eqb (bit_and (w / 4096) 7) 1) (Some (FenceI))
     (None))
 fence_rows w h e = decode_fields w h ∙ rw e refl
 
+-- a CSR instruction goes by funct3; ECALL, EBREAK, MRET and WFI are one word each
 pub system_rows : (w : ℕ) → w < 2 ^ 32 → bit_and w 127 ≡ 115 → decode_of w ≡
     cond (eqb (bit_and (w / 4096) 7) 1) (Some (Csr Write (rd w) (rs1 w) false (csr w)))
     (cond (eqb (bit_and (w / 4096) 7) 2) (Some (Csr Set (rd w) (rs1 w) false (csr w)))
@@ -270,6 +285,7 @@ pub system_rows : (w : ℕ) → w < 2 ^ 32 → bit_and w 127 ≡ 115 → decode_
     (None))))))))))
 system_rows w h e = decode_fields w h ∙ rw e refl
 
+-- a word of none of these eleven opcodes is no instruction
 pub no_rows : (w : ℕ) → w < 2 ^ 32
     → bit_and w 127 ≢ 55 → bit_and w 127 ≢ 23 → bit_and w 127 ≢ 111 → bit_and w 127 ≢ 103 → bit_and w 127 ≢ 99
     → bit_and w 127 ≢ 3 → bit_and w 127 ≢ 35 → bit_and w 127 ≢ 19 → bit_and w 127 ≢ 51 → bit_and w 127 ≢ 15

@@ -129,6 +129,7 @@ by_fields h hh (r ∷ rs) e =
     ap (λ (b : Bool). cond b (Some (r.gives h)) (first_fit h rs)) (by_mask h hh r p.0)
     ∙ ap (λ (o : Option ℕ). cond (field_fit (h % 4) (h / 8192) h r) (Some (r.gives h)) o) (by_fields h hh rs p.1)
 
+-- the table of halfwords may be searched by quadrant, number and the bits between
 expand_fields : (h : ℕ) → h < 2 ^ 16 → expand_of h ≡ first_field_fit (h % 4) (h / 8192) h rows
 unfolding expand_of all_good good
 expand_fields h hh = by_fields h hh rows refl
@@ -142,26 +143,33 @@ pub stack_address : (h : ℕ) → h < 2 ^ 16 → h % 4 ≡ 0 → h / 8192 ≡ 0 
     None
 stack_address h hh a b = expand_fields h hh ∙ rw (a, b, and_zero_r h) refl
 
+-- number 1 of quadrant 0 is C.FLD's, of floating point
 pub none_0_1 : (h : ℕ) → h < 2 ^ 16 → h % 4 ≡ 0 → h / 8192 ≡ 1 → expand_of h ≡ None
 none_0_1 h hh a b = expand_fields h hh ∙ rw (a, b) refl
 
+-- C.LW names both of its registers with three bits, x8 to x15
 pub load_word : (h : ℕ) → h < 2 ^ 16 → h % 4 ≡ 0 → h / 8192 ≡ 2
     → expand_of h ≡ Some (lw (low_reg h) (high_reg h) (imm_lw h))
 load_word h hh a b = expand_fields h hh ∙ rw (a, b, and_zero_r h) refl
 
+-- number 3 of quadrant 0, C.FLW's, stands for nothing without floating point
 pub none_0_3 : (h : ℕ) → h < 2 ^ 16 → h % 4 ≡ 0 → h / 8192 ≡ 3 → expand_of h ≡ None
 none_0_3 h hh a b = expand_fields h hh ∙ rw (a, b) refl
 
+-- number 4 of quadrant 0 is reserved
 pub none_0_4 : (h : ℕ) → h < 2 ^ 16 → h % 4 ≡ 0 → h / 8192 ≡ 4 → expand_of h ≡ None
 none_0_4 h hh a b = expand_fields h hh ∙ rw (a, b) refl
 
+-- number 5 of quadrant 0 would store a double, C.FSD
 pub none_0_5 : (h : ℕ) → h < 2 ^ 16 → h % 4 ≡ 0 → h / 8192 ≡ 5 → expand_of h ≡ None
 none_0_5 h hh a b = expand_fields h hh ∙ rw (a, b) refl
 
+-- C.SW has the fields of C.LW, with the stored register where the loaded one was
 pub store_word : (h : ℕ) → h < 2 ^ 16 → h % 4 ≡ 0 → h / 8192 ≡ 6
     → expand_of h ≡ Some (sw (low_reg h) (high_reg h) (imm_lw h))
 store_word h hh a b = expand_fields h hh ∙ rw (a, b, and_zero_r h) refl
 
+-- number 7 of quadrant 0 would be C.FSW
 pub none_0_7 : (h : ℕ) → h < 2 ^ 16 → h % 4 ≡ 0 → h / 8192 ≡ 7 → expand_of h ≡ None
 none_0_7 h hh a b = expand_fields h hh ∙ rw (a, b) refl
 
@@ -170,13 +178,16 @@ pub add_immediate : (h : ℕ) → h < 2 ^ 16 → h % 4 ≡ 1 → h / 8192 ≡ 0
     → expand_of h ≡ Some (addi (wide_rd h) (wide_rd h) (imm_six h))
 add_immediate h hh a b = expand_fields h hh ∙ rw (a, b, and_zero_r h) refl
 
+-- C.JAL leaves its return address in x1
 pub jump_and_link : (h : ℕ) → h < 2 ^ 16 → h % 4 ≡ 1 → h / 8192 ≡ 1 → expand_of h ≡ Some (jal 1 (imm_jump h))
 jump_and_link h hh a b = expand_fields h hh ∙ rw (a, b, and_zero_r h) refl
 
+-- C.LI is an addition to x0
 pub load_immediate : (h : ℕ) → h < 2 ^ 16 → h % 4 ≡ 1 → h / 8192 ≡ 2
     → expand_of h ≡ Some (addi (wide_rd h) 0 (imm_six h))
 load_immediate h hh a b = expand_fields h hh ∙ rw (a, b, and_zero_r h) refl
 
+-- C.ADDI16SP where rd is x2 and C.LUI where it isn't, neither with the immediate 0
 pub stack_or_upper : (h : ℕ) → h < 2 ^ 16 → h % 4 ≡ 1 → h / 8192 ≡ 3 → expand_of h ≡
     cond (eqb (bit_and h 3968) 256 && (not (eqb (bit_and h 4220) 0) && true)) (Some (addi 2 2 (imm_addi16sp h)))
     (cond (not (eqb (bit_and h 3968) 256) && (not (eqb (bit_and h 4220) 0) && true))
@@ -184,6 +195,7 @@ pub stack_or_upper : (h : ℕ) → h < 2 ^ 16 → h % 4 ≡ 1 → h / 8192 ≡ 3
     None)
 stack_or_upper h hh a b = expand_fields h hh ∙ rw (a, b, and_zero_r h) refl
 
+-- bits 12:10 and 6:5 tell seven computations on x8 to x15 apart, and some are none
 pub arithmetic : (h : ℕ) → h < 2 ^ 16 → h % 4 ≡ 1 → h / 8192 ≡ 4 → expand_of h ≡
     cond (eqb (bit_and h 7168) 0 && true) (Some (srli (high_reg h) (high_reg h) (bits_at h 2 5)))
     (cond (eqb (bit_and h 7168) 1024 && true) (Some (srai (high_reg h) (high_reg h) (bits_at h 2 5)))
@@ -195,13 +207,16 @@ pub arithmetic : (h : ℕ) → h < 2 ^ 16 → h % 4 ≡ 1 → h / 8192 ≡ 4 →
     None))))))
 arithmetic h hh a b = expand_fields h hh ∙ rw (a, b) refl
 
+-- C.J is C.JAL into x0, which keeps no return address
 pub jump : (h : ℕ) → h < 2 ^ 16 → h % 4 ≡ 1 → h / 8192 ≡ 5 → expand_of h ≡ Some (jal 0 (imm_jump h))
 jump h hh a b = expand_fields h hh ∙ rw (a, b, and_zero_r h) refl
 
+-- C.BEQZ compares one of x8 to x15 with x0
 pub branch_if_zero : (h : ℕ) → h < 2 ^ 16 → h % 4 ≡ 1 → h / 8192 ≡ 6
     → expand_of h ≡ Some (beq (high_reg h) 0 (imm_branch h))
 branch_if_zero h hh a b = expand_fields h hh ∙ rw (a, b, and_zero_r h) refl
 
+-- C.BNEZ has the fields of C.BEQZ, and the next number
 pub branch_if_not_zero : (h : ℕ) → h < 2 ^ 16 → h % 4 ≡ 1 → h / 8192 ≡ 7
     → expand_of h ≡ Some (bne (high_reg h) 0 (imm_branch h))
 branch_if_not_zero h hh a b = expand_fields h hh ∙ rw (a, b, and_zero_r h) refl
@@ -212,17 +227,21 @@ pub shift_left : (h : ℕ) → h < 2 ^ 16 → h % 4 ≡ 2 → h / 8192 ≡ 0 →
     None
 shift_left h hh a b = expand_fields h hh ∙ rw (a, b) refl
 
+-- number 1 of quadrant 2 would be C.FLDSP
 pub none_2_1 : (h : ℕ) → h < 2 ^ 16 → h % 4 ≡ 2 → h / 8192 ≡ 1 → expand_of h ≡ None
 none_2_1 h hh a b = expand_fields h hh ∙ rw (a, b) refl
 
+-- C.LWSP loads from x2 on, into any register but x0
 pub load_from_stack : (h : ℕ) → h < 2 ^ 16 → h % 4 ≡ 2 → h / 8192 ≡ 2 → expand_of h ≡
     cond (not (eqb (bit_and h 3968) 0) && true) (Some (lw (wide_rd h) 2 (imm_lwsp h)))
     None
 load_from_stack h hh a b = expand_fields h hh ∙ rw (a, b, and_zero_r h) refl
 
+-- number 3 of quadrant 2 would be C.FLWSP
 pub none_2_3 : (h : ℕ) → h < 2 ^ 16 → h % 4 ≡ 2 → h / 8192 ≡ 3 → expand_of h ≡ None
 none_2_3 h hh a b = expand_fields h hh ∙ rw (a, b) refl
 
+-- C.JR, C.MV, C.EBREAK, C.JALR and C.ADD, by bit 12 and by which register fields are 0
 pub register_pair : (h : ℕ) → h < 2 ^ 16 → h % 4 ≡ 2 → h / 8192 ≡ 4 → expand_of h ≡
     cond (eqb (bit_and h 4220) 0 && (not (eqb (bit_and h 3968) 0) && true)) (Some (jalr 0 (wide_rd h)))
     (cond (eqb (bit_and h 4096) 0 && (not (eqb (bit_and h 124) 0) && true)) (Some (add (wide_rd h) 0 (wide_rs2 h)))
@@ -233,16 +252,20 @@ pub register_pair : (h : ℕ) → h < 2 ^ 16 → h % 4 ≡ 2 → h / 8192 ≡ 4 
     None))))
 register_pair h hh a b = expand_fields h hh ∙ rw (a, b) refl
 
+-- number 5 of quadrant 2 would be C.FSDSP
 pub none_2_5 : (h : ℕ) → h < 2 ^ 16 → h % 4 ≡ 2 → h / 8192 ≡ 5 → expand_of h ≡ None
 none_2_5 h hh a b = expand_fields h hh ∙ rw (a, b) refl
 
+-- C.SWSP stores any register, x2 being its base
 pub store_to_stack : (h : ℕ) → h < 2 ^ 16 → h % 4 ≡ 2 → h / 8192 ≡ 6
     → expand_of h ≡ Some (sw (wide_rs2 h) 2 (imm_swsp h))
 store_to_stack h hh a b = expand_fields h hh ∙ rw (a, b, and_zero_r h) refl
 
+-- number 7 of quadrant 2 would be C.FSWSP, the last of floating point
 pub none_2_7 : (h : ℕ) → h < 2 ^ 16 → h % 4 ≡ 2 → h / 8192 ≡ 7 → expand_of h ≡ None
 none_2_7 h hh a b = expand_fields h hh ∙ rw (a, b) refl
 
+-- a halfword with both low bits set begins a word of 32 bits, and stands for no other
 pub no_short : (h : ℕ) → h < 2 ^ 16 → h % 4 ≡ 3 → expand_of h ≡ None
 no_short h hh a = expand_fields h hh ∙ rw a refl
 

@@ -37,11 +37,13 @@ decode_at w op f3 f7 h a b c found =
     ∙ ap (λ (x : ℕ). first_field_fit op f3 x w Words.rows) c in
     (h, subst (λ (o : Option Insn). IsSome o) (sym is) found)
 
+-- in the forms I and R the upper seven bits of the immediate stand where funct7 does
 i_fits : (imm rs1 f3 rd op f7 : ℕ) → imm < 2 ^ 12 → rs1 < 32 → f3 < 8 → rd < 32 → op < 128 → imm / 32 ≡ f7
     → IsSome (first_field_fit op f3 f7 (i_word imm rs1 f3 rd op) Words.rows) → IsInstruction (i_word imm rs1 f3 rd op)
 i_fits imm rs1 f3 rd op f7 h1 h2 h3 h4 h5 h6 found =
     decode_at (i_word imm rs1 f3 rd op) op f3 f7 (omega arith) (omega arith) (omega arith) (omega arith) found
 
+-- the form S parts its immediate, and leaves opcode and funct3 where the table looks
 s_fits : (imm rs2 rs1 f3 op : ℕ) → imm < 2 ^ 12 → rs2 < 32 → rs1 < 32 → f3 < 8 → op < 128
     → IsSome (first_field_fit op f3 (s_word imm rs2 rs1 f3 op / 33554432) (s_word imm rs2 rs1 f3 op) Words.rows)
     → IsInstruction (s_word imm rs2 rs1 f3 op)
@@ -49,6 +51,7 @@ s_fits imm rs2 rs1 f3 op h1 h2 h3 h4 h5 found =
     decode_at (s_word imm rs2 rs1 f3 op) op f3 (s_word imm rs2 rs1 f3 op / 33554432) (omega arith) (omega arith)
     (omega arith) refl found
 
+-- the form B shuffles 12 bits of an offset of 13, and moves neither of the two fields
 b_fits : (imm rs2 rs1 f3 op : ℕ) → imm < 2 ^ 13 → rs2 < 32 → rs1 < 32 → f3 < 8 → op < 128
     → IsSome (first_field_fit op f3 (b_word imm rs2 rs1 f3 op / 33554432) (b_word imm rs2 rs1 f3 op) Words.rows)
     → IsInstruction (b_word imm rs2 rs1 f3 op)
@@ -64,33 +67,42 @@ lui_fits rd upper h1 h2 =
     decode_at (lui rd upper) 0x37 (lui rd upper / 4096 % 8) (lui rd upper / 33554432) (omega arith) (omega arith) refl
     refl refl
 
+-- JAL takes any offset of 21 bits
 jal_fits : (rd imm : ℕ) → rd < 32 → imm < 2 ^ 21 → IsInstruction (jal rd imm)
 jal_fits rd imm h1 h2 =
     decode_at (jal rd imm) 0x6f (jal rd imm / 4096 % 8) (jal rd imm / 33554432) (omega arith) (omega arith) refl refl
     refl
 
+-- JALR, here with the offset 0, goes by any register
 jalr_fits : (rd rs1 : ℕ) → rd < 32 → rs1 < 32 → IsInstruction (jalr rd rs1)
 jalr_fits rd rs1 h1 h2 = i_fits 0 rs1 0 rd 0x67 0 (lit< tt) h2 (lit< tt) h1 (lit< tt) refl refl
 
+-- EBREAK is one word, which is its own row
 ebreak_fits : IsInstruction ebreak
 unfolding decode_of
 ebreak_fits = (lit< tt, refl)
 
+-- BEQ compares any two registers, with an offset of 13 bits
 beq_fits : (rs1 rs2 imm : ℕ) → rs1 < 32 → rs2 < 32 → imm < 2 ^ 13 → IsInstruction (beq rs1 rs2 imm)
 beq_fits rs1 rs2 imm h1 h2 h3 = b_fits imm rs2 rs1 0 0x63 h3 h2 h1 (lit< tt) (lit< tt) refl
 
+-- BNE has another funct3 than BEQ, and the same ranges
 bne_fits : (rs1 rs2 imm : ℕ) → rs1 < 32 → rs2 < 32 → imm < 2 ^ 13 → IsInstruction (bne rs1 rs2 imm)
 bne_fits rs1 rs2 imm h1 h2 h3 = b_fits imm rs2 rs1 1 0x63 h3 h2 h1 (lit< tt) (lit< tt) refl
 
+-- SW takes any base, and an offset of 12 bits
 sw_fits : (rs2 rs1 imm : ℕ) → rs2 < 32 → rs1 < 32 → imm < 2 ^ 12 → IsInstruction (sw rs2 rs1 imm)
 sw_fits rs2 rs1 imm h1 h2 h3 = s_fits imm rs2 rs1 2 0x23 h3 h1 h2 (lit< tt) (lit< tt) refl
 
+-- LW takes any offset of 12 bits, since a load has no funct7
 lw_fits : (rd rs1 imm : ℕ) → rd < 32 → rs1 < 32 → imm < 2 ^ 12 → IsInstruction (lw rd rs1 imm)
 lw_fits rd rs1 imm h1 h2 h3 = i_fits imm rs1 2 rd 0x03 (imm / 32) h3 h2 (lit< tt) h1 (lit< tt) refl refl
 
+-- ADDI takes any immediate of 12 bits, and x0 for either register
 addi_fits : (rd rs1 imm : ℕ) → rd < 32 → rs1 < 32 → imm < 2 ^ 12 → IsInstruction (addi rd rs1 imm)
 addi_fits rd rs1 imm h1 h2 h3 = i_fits imm rs1 0 rd 0x13 (imm / 32) h3 h2 (lit< tt) h1 (lit< tt) refl refl
 
+-- ANDI is ADDI but for its funct3, 7
 andi_fits : (rd rs1 imm : ℕ) → rd < 32 → rs1 < 32 → imm < 2 ^ 12 → IsInstruction (andi rd rs1 imm)
 andi_fits rd rs1 imm h1 h2 h3 = i_fits imm rs1 7 rd 0x13 (imm / 32) h3 h2 (lit< tt) h1 (lit< tt) refl refl
 
@@ -99,30 +111,37 @@ slli_fits : (rd rs1 rs2 : ℕ) → rd < 32 → rs1 < 32 → rs2 < 32 → IsInstr
 slli_fits rd rs1 rs2 h1 h2 h3 =
     i_fits (0 * 2 ^ 5 + rs2) rs1 1 rd 0x13 0 (omega arith) h2 (lit< tt) h1 (lit< tt) (omega arith) refl
 
+-- SRLI has funct7 0 in front of its amount
 srli_fits : (rd rs1 rs2 : ℕ) → rd < 32 → rs1 < 32 → rs2 < 32 → IsInstruction (srli rd rs1 rs2)
 srli_fits rd rs1 rs2 h1 h2 h3 =
     i_fits (0 * 2 ^ 5 + rs2) rs1 5 rd 0x13 0 (omega arith) h2 (lit< tt) h1 (lit< tt) (omega arith) refl
 
+-- SRAI has 32 there, and the funct3 of SRLI
 srai_fits : (rd rs1 rs2 : ℕ) → rd < 32 → rs1 < 32 → rs2 < 32 → IsInstruction (srai rd rs1 rs2)
 srai_fits rd rs1 rs2 h1 h2 h3 =
     i_fits (32 * 2 ^ 5 + rs2) rs1 5 rd 0x13 32 (omega arith) h2 (lit< tt) h1 (lit< tt) (omega arith) refl
 
+-- ADD, for C.ADD and C.MV, has both functions 0
 add_fits : (rd rs1 rs2 : ℕ) → rd < 32 → rs1 < 32 → rs2 < 32 → IsInstruction (add rd rs1 rs2)
 add_fits rd rs1 rs2 h1 h2 h3 =
     i_fits (0 * 2 ^ 5 + rs2) rs1 0 rd 0x33 0 (omega arith) h2 (lit< tt) h1 (lit< tt) (omega arith) refl
 
+-- SUB is ADD with funct7 32
 sub_fits : (rd rs1 rs2 : ℕ) → rd < 32 → rs1 < 32 → rs2 < 32 → IsInstruction (sub rd rs1 rs2)
 sub_fits rd rs1 rs2 h1 h2 h3 =
     i_fits (32 * 2 ^ 5 + rs2) rs1 0 rd 0x33 32 (omega arith) h2 (lit< tt) h1 (lit< tt) (omega arith) refl
 
+-- XOR of any registers has a row at funct3 4
 xor_fits : (rd rs1 rs2 : ℕ) → rd < 32 → rs1 < 32 → rs2 < 32 → IsInstruction (xor rd rs1 rs2)
 xor_fits rd rs1 rs2 h1 h2 h3 =
     i_fits (0 * 2 ^ 5 + rs2) rs1 4 rd 0x33 0 (omega arith) h2 (lit< tt) h1 (lit< tt) (omega arith) refl
 
+-- OR has one at funct3 6
 or_fits : (rd rs1 rs2 : ℕ) → rd < 32 → rs1 < 32 → rs2 < 32 → IsInstruction (or rd rs1 rs2)
 or_fits rd rs1 rs2 h1 h2 h3 =
     i_fits (0 * 2 ^ 5 + rs2) rs1 6 rd 0x33 0 (omega arith) h2 (lit< tt) h1 (lit< tt) (omega arith) refl
 
+-- AND has one at funct3 7, the last
 and_fits : (rd rs1 rs2 : ℕ) → rd < 32 → rs1 < 32 → rs2 < 32 → IsInstruction (and rd rs1 rs2)
 and_fits rd rs1 rs2 h1 h2 h3 =
     i_fits (0 * 2 ^ 5 + rs2) rs1 7 rd 0x33 0 (omega arith) h2 (lit< tt) h1 (lit< tt) (omega arith) refl
@@ -133,15 +152,19 @@ and_fits rd rs1 rs2 h1 h2 h3 =
 low_reg-lt : (h : ℕ) → low_reg h < 32
 low_reg-lt h = omega arith
 
+-- three bits name x8 to x15, here bits 9:7
 high_reg-lt : (h : ℕ) → high_reg h < 32
 high_reg-lt h = omega arith
 
+-- five bits name any register, here bits 11:7
 wide_rd-lt : (h : ℕ) → wide_rd h < 32
 wide_rd-lt h = omega arith
 
+-- bits 6:2 name the second source
 wide_rs2-lt : (h : ℕ) → wide_rs2 h < 32
 wide_rs2-lt h = omega arith
 
+-- read as an amount, the same five bits shift by less than 32
 amount-lt : (h : ℕ) → bits_at h 2 5 < 32
 amount-lt h = omega arith
 
@@ -149,27 +172,35 @@ amount-lt h = omega arith
 imm_addi4spn-lt : (h : ℕ) → imm_addi4spn h < 2 ^ 12
 imm_addi4spn-lt h = omega arith
 
+-- the offset of C.LW and C.SW, a multiple of 4 below 128, fits the 12 bits of its forms
 imm_lw-lt : (h : ℕ) → imm_lw h < 2 ^ 12
 imm_lw-lt h = omega arith
 
+-- so does that of C.LWSP, below 256
 imm_lwsp-lt : (h : ℕ) → imm_lwsp h < 2 ^ 12
 imm_lwsp-lt h = omega arith
 
+-- and that of C.SWSP, which is in other bits of the halfword
 imm_swsp-lt : (h : ℕ) → imm_swsp h < 2 ^ 12
 imm_swsp-lt h = omega arith
 
+-- six bits with their sign are extended to 12, and no further
 imm_six-lt : (h : ℕ) → imm_six h < 2 ^ 12
 imm_six-lt h = omega arith
 
+-- the ten bits of C.ADDI16SP are extended to 12 in the same way
 imm_addi16sp-lt : (h : ℕ) → imm_addi16sp h < 2 ^ 12
 imm_addi16sp-lt h = omega arith
 
+-- for C.LUI six bits are extended to the 20 of the form U
 imm_lui-lt : (h : ℕ) → imm_lui h < 2 ^ 20
 imm_lui-lt h = omega arith
 
+-- a jump's 12 bits are extended to the 21 of the form J
 imm_jump-lt : (h : ℕ) → imm_jump h < 2 ^ 21
 imm_jump-lt h = omega arith
 
+-- a branch's nine bits are extended to the 13 of the form B
 imm_branch-lt : (h : ℕ) → imm_branch h < 2 ^ 13
 imm_branch-lt h = omega arith
 
@@ -208,6 +239,7 @@ all_fit h =
     (λ _. add_fits (wide_rd h) (wide_rd h) (wide_rs2 h) (wide_rd-lt h) (wide_rd-lt h) (wide_rs2-lt h)) ▸
     (λ _. sw_fits (wide_rs2 h) 2 (imm_swsp h) (wide_rs2-lt h) (lit< tt) (imm_swsp-lt h)) ▸ tt
 
+-- no halfword expands to a word that doesn't decode
 pub expand_of-fits : (h : ℕ) → IfSome (expand_of h) IsInstruction
 unfolding expand_of
 expand_of-fits h = given h IsInstruction rows (all_fit h)

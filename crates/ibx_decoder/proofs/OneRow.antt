@@ -81,6 +81,7 @@ not_both w r s f g e =
       ]
     ]
 
+-- where a row fits, none of the rows that it is apart from does
 no_other : {A : Type 0} (w : ℕ) (r : Row A) (rs : List (Row A)) → apart r rs ≡ true → fits w r ≡ true
     → filter (fits w) rs ≡ []
 unfolding apart

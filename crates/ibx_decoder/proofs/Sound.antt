@@ -23,6 +23,7 @@ decode_of-row w = one_row w rows refl
 has_low_bits : Row Insn → Bool
 has_low_bits r = eqb (bit_and r.mask 3) 3 && eqb (bit_and r.matches 3) 3
 
+-- a table asks for them in each of its rows
 all_low_bits : List (Row Insn) → Bool
 unfolding has_low_bits
 all_low_bits [] = true
@@ -38,6 +39,7 @@ low_bits_of_row w r e f =
     sym low ∙ ap (λ (n : ℕ). bit_and w n) (sym (eqb-true (bit_and r.mask 3) 3 p.0)) ∙ sym (and_assoc 3 w r.mask)
     ∙ ap (λ (n : ℕ). bit_and n 3) (eqb-true (bit_and w r.mask) r.matches q.0) ∙ eqb-true (bit_and r.matches 3) 3 p.1
 
+-- whichever row of such a table a word fits, its two low bits are 1
 low_bits_of_rows : (w : ℕ) (rs : List (Row Insn)) → all_low_bits rs ≡ true → AllGive w (λ _. w % 4 ≡ 3) rs
 unfolding all_low_bits
 low_bits_of_rows w [] e = tt
@@ -45,6 +47,7 @@ low_bits_of_rows w (r ∷ rs) e =
     let p = and_parts (has_low_bits r) (all_low_bits rs) e in
     (low_bits_of_row w r p.0, low_bits_of_rows w rs p.1)
 
+-- a word decodes only where bits 1:0 are 3, as no compressed instruction's are
 pub decode_of-long : (w : ℕ) → OnSome (decode_of w) (w % 4 ≡ 3)
 unfolding decode_of all_low_bits has_low_bits
 decode_of-long w = given w (λ _. w % 4 ≡ 3) rows (low_bits_of_rows w rows refl)
@@ -55,9 +58,11 @@ decode_of-long w = given w (λ _. w % 4 ≡ 3) rows (low_bits_of_rows w rows ref
 extended-word : (n : ℕ) → n < 2 ^ 12 → sign_extended 12 n < 2 ^ 32
 extended-word n h = grind arith
 
+-- a branch's 13 bits stay below 2 ^ 32 with their sign
 extended_branch-word : (n : ℕ) → n < 2 ^ 13 → sign_extended 13 n < 2 ^ 32
 extended_branch-word n h = grind arith
 
+-- and so do the 21 bits of a jump
 extended_jump-word : (n : ℕ) → n < 2 ^ 21 → sign_extended 21 n < 2 ^ 32
 extended_jump-word n h = grind arith
 
@@ -66,11 +71,13 @@ extended_even : (n more : ℕ) (b : Bool) → n % 2 ≡ 0 → more % 2 ≡ 0 →
 extended_even n more true e k = e
 extended_even n more false e k = omega (arith, e, k)
 
+-- a branch's form has no bit 0 of the offset, so it lands on a parcel
 branch_even : (w : ℕ) → imm_b w % 2 ≡ 0
 branch_even w =
     let n : ℕ = w / 2 ^ 31 * 2 ^ 12 + bits_at w 7 1 * 2 ^ 11 + bits_at w 25 6 * 2 ^ 5 + bits_at w 8 4 * 2 in
     extended_even n (2 ^ 32 - 2 ^ 13) (nat_lt n (2 ^ 12)) (omega arith) refl
 
+-- nor has a jump's, so that its target is an even number of bytes away
 jump_even : (w : ℕ) → imm_j w % 2 ≡ 0
 jump_even w =
     let n : ℕ = w / 2 ^ 31 * 2 ^ 20 + bits_at w 12 8 * 2 ^ 12 + bits_at w 20 1 * 2 ^ 11 + bits_at w 21 10 * 2 in
@@ -114,6 +121,7 @@ well_formed_rows w h =
     (λ _. (d, a, c)) ▸ (λ _. (d, a, c)) ▸ (λ _. (d, a, c)) ▸ (λ _. (d, a, c)) ▸ (λ _. (d, a, c)) ▸ (λ _. (d, a, c)) ▸
     (λ _. tt) ▸ (λ _. tt) ▸ (λ _. tt) ▸ (λ _. tt) ▸ tt
 
+-- whatever the word, a decoded instruction has registers, CSR and immediate within their bits
 pub decode_of-sound : (w : ℕ) → w < 2 ^ 32 → IfSome (decode_of w) IsWellFormed
 unfolding decode_of
 decode_of-sound w h = given w IsWellFormed rows (well_formed_rows w h)

@@ -84,6 +84,7 @@ decimal_two n lo hi =
           (n % 10) (omega arith),
     )
 
+-- a number from 10 to 99 prints two characters
 pub length_two : (n : ℕ) → 10 ≤ n → n < 100 → length (decimal n) ≡ 2
 unfolding two_digits
 length_two n lo hi = ap length (decimal_two n lo hi)
@@ -106,6 +107,7 @@ decimal_pair n lo hi =
       glyph (n % 10) (omega arith),
     )
 
+-- a number of three digits or more prints two characters more than its hundreds do
 pub length_pair : (n : ℕ) → 100 ≤ n → n < 2 ^ 64 → length (decimal n) ≡ length (decimal (n / 100)) + 2
 unfolding two_digits
 length_pair n lo hi = ap length (decimal_pair n lo hi) ∙ length-append _ _

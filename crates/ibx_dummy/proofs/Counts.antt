@@ -22,5 +22,6 @@ counted_by-enabled mask d e =
     let same : min 31 (d.dcount + 1) ≡ d.dcount + 1 = omega (arith, dcount-lt mask d e) in
     ap (λ n. record d { dcount = n }) same
 
+-- without dummies an admitted instruction changes neither the count nor the register
 pub counted_by-disabled : (d : Dummy) → counted_by false d ≡ d
 counted_by-disabled d = refl

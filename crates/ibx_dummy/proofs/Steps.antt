@@ -17,6 +17,7 @@ low_bit lfsr mask zero lt = bit_at_and (lfsr % 32) (mask * 4 + 3) 0 ∙ omega ar
 low_bit lfsr mask (suc zero) lt = bit_at_and (lfsr % 32) (mask * 4 + 3) 1 ∙ omega arith
 low_bit lfsr mask (suc (suc k)) lt = absurd (omega arith)
 
+-- the mask lets bits 4:2 of the register pass, each where it has the bit two below
 high_bit : (lfsr mask k : ℕ) → k < 3
     → bit_at (bit_and (lfsr % 32) (mask * 4 + 3)) (k + 2) ≡ min (bit_at lfsr (k + 2)) (bit_at mask k)
 high_bit lfsr mask zero lt = bit_at_and (lfsr % 32) (mask * 4 + 3) 2 ∙ omega arith
@@ -56,6 +57,7 @@ tap_at (suc n) e k lt =
       | inr other ↦ tap_at n parts.1 k (omega arith)
     ]
 
+-- the constant of the feedback has the taps of the polynomial in all its 32 bits
 tap : (k : ℕ) → k < 32 → bit_at feedback k ≡ (if is_tap k then 1 else 0)
 unfolding has_taps
 tap = tap_at 32 refl
@@ -69,6 +71,7 @@ tapped : (t : Bool) (b low : ℕ) → low ≡ 1 → (b + (if t then 1 else 0)) %
 tapped true b low e = omega arith
 tapped false b low e = refl
 
+-- a bit that falls out as 0 adds nothing, at a tap or elsewhere
 untapped : (t : Bool) (b low : ℕ) → low ≡ 0 → b < 2 → b ≡ (b + (if t then low else 0)) % 2
 untapped true b low e lt = omega arith
 untapped false b low e lt = omega arith
@@ -81,6 +84,7 @@ shifts_odd x odd k lt =
     ∙ ap (λ (b : ℕ). (bit_at x (k + 1) + b) % 2) (tap k lt)
     ∙ tapped (is_tap k) (bit_at x (k + 1)) (bit_at x 0) (omega arith)
 
+-- where the bit that falls out is 0, halving alone is the step
 pub shifts_even : (x : ℕ) → x % 2 ≡ 0 → Shifts x (x / 2)
 shifts_even x even k lt =
     bit_above x k ∙ untapped (is_tap k) (bit_at x (k + 1)) (bit_at x 0) (omega arith) (bit_at-lt x (k + 1))

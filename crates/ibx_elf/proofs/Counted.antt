@@ -25,20 +25,24 @@ pub one_more : (file : List ℕ) (n : ℕ) → is_load (program_header file n) �
 unfolding segments_below
 one_more file n h = rw (add-one n, h) refl
 
+-- a header of another type leaves the segments as they are
 pub none_more : (file : List ℕ) (n : ℕ) → is_load (program_header file n) ≡ false → segments_below file (n + 1) ≡
     segments_below file n
 unfolding segments_below
 none_more file n h = rw (add-one n, h) (append-nil (segments_below file n))
 
+-- a loadable header makes one segment more
 pub count_more : (file : List ℕ) (n : ℕ) → is_load (program_header file n) ≡ true → length
     (segments_below file (n + 1)) ≡ length (segments_below file n) + 1
 count_more file n h = rw (one_more file n h) (length-append (segments_below file n) _)
 
+-- an element keeps its index where more elements are put behind its list
 got_left : {X : Type 0} (xs ys : List X) (i : ℕ) (x : X) → slice_get xs i ≡ Some x → slice_get (xs ++ ys) i ≡ Some x
 got_left [] ys i x h = cc
 got_left (y ∷ xs) ys zero x h = h
 got_left (y ∷ xs) ys (suc i) x h = got_left xs ys i x h
 
+-- the element that is put behind a list has the length of the list as its index
 got_last : {X : Type 0} (xs : List X) (x : X) → slice_get (xs ++ x ∷ []) (length xs) ≡ Some x
 got_last [] x = refl
 got_last (y ∷ xs) x = got_last xs x

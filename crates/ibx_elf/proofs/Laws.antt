@@ -231,6 +231,7 @@ placed_byte-elsewhere file addr nowhere =
     ap (λ o. unwrap_or o 0)
     (first_below-none (placed_by file addr) (e_phnum file) (λ i less. not_placed file addr i (nowhere i less)))
 
+-- so the image of a well-formed file is 0 at each address for which no segment has a file byte
 pub is_zero_elsewhere : (file : List ℕ) (ram : Ram) → IsWellFormed file ram → IsZeroElsewhere file (image_of file ram)
 is_zero_elsewhere file ram well addr nowhere =
     byte_of-image_of file ram addr (readable file ram well) ∙ placed_byte-elsewhere file addr nowhere
@@ -240,8 +241,10 @@ pub good_entry : (file : List ℕ) (ram : Ram) → IsWellFormed file ram → is_
 unfolding entry_fault
 good_entry file ram well = only_if-none _ _ (no_fault file ram well).entry
 
+-- an entry that passes the test is even, as an instruction's address is
 pub entry-even : (ram : Ram) (entry : ℕ) → is_bad_entry ram entry ≡ false → entry % 2 ≡ 0
 entry-even ram entry good = grind (arith, nat_tests)
 
+-- the first instruction of an entry that passes the test begins in RAM
 pub entry_in_ram : (ram : Ram) (entry : ℕ) → is_bad_entry ram entry ≡ false → IsInRam ram entry
 entry_in_ram ram entry good = record { from_base = grind (arith, nat_tests); before_end = grind (arith, nat_tests) }

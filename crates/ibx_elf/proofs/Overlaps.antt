@@ -13,6 +13,7 @@ overlap_fault-earlier : (file : List ℕ) (i j : ℕ) → j ≤ i → overlap_fa
 unfolding overlap_fault
 overlap_fault-earlier file i j earlier = rw (le-ltb i j earlier) refl
 
+-- so the search for a header's overlaps may begin with the header behind it
 pub no_overlap_up_to : (file : List ℕ) (i : ℕ) → first_below (overlap_fault file i) (i + 1) ≡ None
 no_overlap_up_to file i =
     first_below-none (overlap_fault file i) (i + 1) (λ k less. overlap_fault-earlier file i k (omega arith))

@@ -16,6 +16,7 @@ is_ram_range-tested ram h = record {
   off_host_page = λ above. grind (arith, nat_tests);
 }
 
+-- no range that may be memory is refused
 pub is_ram_range-of : (ram : Ram) → IsRamRange ram → is_ram_range ram ≡ true
 is_ram_range-of ram r = grind (arith, nat_tests)
 

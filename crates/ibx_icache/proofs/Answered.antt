@@ -28,6 +28,7 @@ answer_at : (w : WordPort) (rsp : Rsp) (l : Look) (g : Doing) → doing_of w.c_s
 unfolding answer_of
 answer_at w rsp l g e = ap (λ (x : Doing). given (answers_by x rsp.valid (is_hit l w.c_addr)) (entry_by x w rsp l)) e
 
+-- in state 1 the port answers at a hit, with the word that the lookup finds
 in_look : (w : WordPort) (rsp : Rsp) (l : Look) → w.c_state ≡ 1
     → answer_of w rsp l ≡ given (is_hit l w.c_addr) (found_word l w.c_addr)
 unfolding answers_by entry_by
@@ -74,6 +75,7 @@ error_is entry =
     small : 2 ^ 32 ≤ entry → entry / 2 ^ 32 ≢ 0
     small le e = absurd (omega (arith, le, e))
 
+-- the test for word 0 picks the word that the rule counts by its number
 half_by : (w : WordPort) (n : ℕ) → n < 2 → (if n == 0 then w.c_word0 else w.c_word1) ≡ half_at w n
 half_by w zero h = refl
 half_by w (suc zero) h = refl

@@ -22,6 +22,7 @@ IsFlipped word = syndrome_of 32 7 word ≢ 0
 flipped_tag : (tag : ℕ) → Decides (is_bad_tag tag) (IsFlippedTag tag)
 flipped_tag tag = Decides-not (syndrome_of 22 6 tag == 0) (Decides-eqb (syndrome_of 22 6 tag) 0)
 
+-- a data word is told in the same way, by its seven check bits
 pub flipped_word : (word : ℕ) → Decides (is_bad_word word) (syndrome_of 32 7 word ≢ 0)
 flipped_word word = Decides-not (syndrome_of 32 7 word == 0) (Decides-eqb (syndrome_of 32 7 word) 0)
 
@@ -37,13 +38,16 @@ module _ (l : Look) (addr : ℕ) where
   first : Decides (matches l.tag0 addr) (Matches l addr false)
   first = Decides-eqb (payload_of 22 l.tag0) (2 ^ 21 + addr / 2 ^ 11)
 
+  -- way 1 is told by the same comparison, of its own tag
   second : Decides (matches l.tag1 addr) (Matches l addr true)
   second = Decides-eqb (payload_of 22 l.tag1) (2 ^ 21 + addr / 2 ^ 11)
 
+  -- way 0 is found wherever it matches, since no way is lower
   found0 : Decides (matches l.tag0 addr) (IsFound l addr false)
   found0 = Decides-like (matches l.tag0 addr) (λ m. record { matches = m; lowest = no_truth (¬ Matches l addr false) })
       (λ f. f.matches) first
 
+  -- way 1 is found where it matches and way 0 doesn't
   found1 : Decides (not (matches l.tag0 addr) && matches l.tag1 addr) (IsFound l addr true)
   found1 =
       Decides-like {P = (¬ Matches l addr false) × Matches l addr true}
@@ -57,6 +61,7 @@ module _ (l : Look) (addr : ℕ) where
   bad_from way (inl t) = by_tag t
   bad_from way (inr (f, t)) = by_word f t
 
+  -- a way is bad for no other reason than its tag, or its word where it is found
   from_bad : (way : Bool) → IsBad l addr way
       → (IsFlippedTag (tag_in l way) ⊎ (IsFound l addr way × IsFlipped (word_in_way l way)))
   from_bad way (by_tag t) = inl t
@@ -69,6 +74,7 @@ module _ (l : Look) (addr : ℕ) where
       (Decides-or (is_bad_tag l.tag0) (matches l.tag0 addr && is_bad_word l.data0) (flipped_tag l.tag0)
       (Decides-and (matches l.tag0 addr) (is_bad_word l.data0) found0 (flipped_word l.data0)))
 
+  -- the test of way 1 looks at its word only where way 0 doesn't match
   bad1 : Decides (is_bad1 l addr) (IsBad l addr true)
   bad1 =
       Decides-like (is_bad1 l addr) (bad_from true) (from_bad true)
@@ -77,10 +83,12 @@ module _ (l : Look) (addr : ℕ) where
       (Decides-and (not (matches l.tag0 addr) && matches l.tag1 addr) (is_bad_word l.data1) found1
       (flipped_word l.data1)))
 
+  -- where way 0 or way 1 is bad, there is a way that is bad
   some_bad : IsBad l addr false ⊎ IsBad l addr true → (way : Bool) × IsBad l addr way
   some_bad (inl b) = (false, b)
   some_bad (inr b) = (true, b)
 
+  -- a way that is bad is way 0 or way 1, since there are no others
   which_bad : ((way : Bool) × IsBad l addr way) → IsBad l addr false ⊎ IsBad l addr true
   which_bad (false, b) = inl b
   which_bad (true, b) = inr b
@@ -109,17 +117,18 @@ module _ (l : Look) (addr : ℕ) where
     },
   )
 
-  -- so the test of a hit decides that there is one
+  -- so a way that matches, with no way bad, makes a hit
   hit_from : ((Matches l addr false ⊎ Matches l addr true) × ¬ ((way : Bool) × IsBad l addr way))
       → (way : Bool) × IsHit l addr way
   hit_from (m, none) = matched m none (matches l.tag0 addr) first
 
+  -- of a hit one of the two ways matches, and neither of them is bad
   from_hit : ((way : Bool) × IsHit l addr way)
       → (Matches l addr false ⊎ Matches l addr true) × ¬ ((way : Bool) × IsBad l addr way)
   from_hit (false, h) = (inl h.found.matches, λ b. h.sound b.0 b.1)
   from_hit (true, h) = (inr h.found.matches, λ b. h.sound b.0 b.1)
 
-  -- a hit
+  -- the test of a hit decides that one of the ways is one
   pub hit : Decides (is_hit l addr) ((way : Bool) × IsHit l addr way)
   unfolding is_hit
   hit =

@@ -30,6 +30,7 @@ entry_low : (err : Bool) (word : ℕ) → word < 2 ^ 32 → entry_of err word < 
 entry_low true word low = omega (arith, low)
 entry_low false word low = omega (arith, low)
 
+-- what the bus answers is kept in 33 bits, also where its word is wrong
 came_low : (rsp : Rsp) → rsp_entry rsp < 2 ^ 33
 came_low rsp = entry_low (is_wrong rsp) (payload_of 32 rsp.word) (omega arith)
 
@@ -38,6 +39,7 @@ record Low (w : WordPort) : Type 0 where
   word0 : w.c_word0 < 2 ^ 33
   word1 : w.c_word1 < 2 ^ 33
 
+-- whatever comes, a word that is kept is the old one or the one that came
 gone_low : (g : Doing) (came hit stores way : Bool) (entry : ℕ) (w : WordPort) → entry < 2 ^ 33 → Low w
     → Low (gone_by g came hit stores way entry w)
 unfolding gone_by
@@ -55,6 +57,7 @@ gone_low AsksBare came hit stores way entry w e k = k
 gone_low AwaitsBare true hit stores way entry w e k = record { word0 = k.word0; word1 = k.word1 }
 gone_low AwaitsBare false hit stores way entry w e k = k
 
+-- a request that is taken up leaves the words of the line before it
 begun_low : (rests cached : Bool) (request : Option ℕ) (w : WordPort) → Low w → Low (begun_by rests cached request w)
 unfolding begun_by
 begun_low true cached None w k = k
@@ -63,6 +66,7 @@ begun_low false cached (Some addr) w k = k
 begun_low true true (Some addr) w k = record { word0 = k.word0; word1 = k.word1 }
 begun_low true false (Some addr) w k = record { word0 = k.word0; word1 = k.word1 }
 
+-- the walk stops at 256, which has nine bits
 walk_low : (fence : Bool) (walk : ℕ) → walk < 2 ^ 9 → walked fence walk < 2 ^ 9
 walk_low true walk low = lit< tt
 walk_low false walk low = by (cases_lt walk 256)
@@ -107,6 +111,7 @@ walks_on w i granted = record {
       ∙ ap (λ (b : Bool). if b then w.c_walk + 1 else w.c_walk) (le-ltb w.c_walk 256 high);
 }
 
+-- from its beginning on the walk is at set n in cycle n, as long as no FENCE.I comes
 pub emptying : (w : WordPort) → w.c_walk ≡ 0 → Emptying w
 unfolding fields_at
 emptying w z run zero le h = z
@@ -128,6 +133,7 @@ begun_way false cached (Some addr) w = refl
 begun_way true true (Some addr) w = refl
 begun_way true false (Some addr) w = refl
 
+-- a lookup that misses takes over the way that is handed to it
 missed_way : (g : Doing) (came hit stores way : Bool) (entry : ℕ) (w : WordPort) → g ≡ Looks → hit ≡ false
     → (gone_by g came hit stores way entry w).c_way ≡ way
 unfolding gone_by
@@ -193,6 +199,7 @@ gone_alt AsksBare came hit good ended way entry w = refl
 gone_alt AwaitsBare true hit good ended way entry w = refl
 gone_alt AwaitsBare false hit good ended way entry w = refl
 
+-- the grant and the walk leave it too, so that storing a line alone changes it
 next_alt : (w : WordPort) (i : WordIn) (granted : Bool)
     → (word_port_next w i granted).c_alt ≡ other_by (stores_of w i) w
 unfolding word_port_next
@@ -207,10 +214,12 @@ pub turns_other : (w : WordPort) (i : WordIn) (granted : Bool) → IsStored w i
     → (word_port_next w i granted).c_alt ≡ not w.c_way
 turns_other w i granted s = next_alt w i granted ∙ ap (λ (b : Bool). other_by b w) ((stored_told w i).1 s)
 
+-- a test that decides a fact fails where the fact is refuted
 unstored : (b : Bool) (P : Type 0) → Decides b P → ¬ P → b ≡ false
 unstored true P d n = absurd (n (d.0 refl))
 unstored false P d n = refl
 
+-- a cycle that stores no line leaves the next turn to the same way
 pub keeps_other : (w : WordPort) (i : WordIn) (granted : Bool) → ¬ IsStored w i
     → (word_port_next w i granted).c_alt ≡ w.c_alt
 keeps_other w i granted n = next_alt w i granted
@@ -319,6 +328,7 @@ given_by : (b err : Bool) (word : ℕ) → (given_if b err word).valid ≡ false
 given_by true err word e = absurd cc
 given_by false err word e = refl
 
+-- where the answer isn't valid, neither the bus nor the lookup had one to give
 silent_by : (w : WordPort) (rsp : Rsp) (l : Look) → (answer_of w rsp l).valid ≡ false
     → answers_by (doing_of w.c_state) rsp.valid (is_hit l w.c_addr) ≡ false
 unfolding answer_of
@@ -363,7 +373,9 @@ module _ (w : WordPort) (run : Run) (t c : ℕ) where
 
   -- the request is outstanding in cycle m, and where no FENCE.I is noted none came since cycle t
   record Held (m : ℕ) : Type 0 where
+    -- the request was taken up, and has no answer yet
     busy : is_rest (doing_of (fields_at w run m).c_state) ≡ false
+    -- a note that is still clear vouches for each cycle from t on
     kept : (fields_at w run m).c_nostore ≡ false → (k : ℕ) → t ≤ k → k < m → Unfenced k
 
   -- a request is outstanding with the FENCE.I since noted: in its first cycle, in each further one, and so at its end
@@ -375,6 +387,7 @@ module _ (w : WordPort) (run : Run) (t c : ℕ) where
         subst Unfenced same (starts (fields_at w run t) (run.comes t) (run.granted t) o.cached).unfenced;
   }
 
+  -- a further cycle without the answer keeps it so, since a FENCE.I in it would be noted
   goes_on : (m : ℕ) → IsOutstanding w run t c → t < m → m < c → Held m → Held (suc m)
   unfolding fields_at
   goes_on m o from to h =
@@ -393,6 +406,7 @@ module _ (w : WordPort) (run : Run) (t c : ℕ) where
           by (inl lt) = h.kept e k lo lt
           by (inr le) = let same : m ≡ k = omega arith in subst Unfenced same here
 
+  -- so it is in each cycle from the one after the request up to the one of the answer
   holds : (d m : ℕ) → IsOutstanding w run t c → m ≡ suc t + d → m ≤ c → Held m
   holds zero m o e le = let same : suc t ≡ m = omega arith in subst Held same (opens o)
   holds (suc d) zero o e le = absurd (omega (arith, e))

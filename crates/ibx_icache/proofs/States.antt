@@ -36,10 +36,12 @@ pub looks_at : (state : ℕ) → state ≡ 1 → doing_of state ≡ Looks
 unfolding doing_of
 looks_at state e = ap doing_of e
 
+-- state 6 answers after a miss
 pub answers_at : (state : ℕ) → state ≡ 6 → doing_of state ≡ Answers
 unfolding doing_of
 answers_at state e = ap doing_of e
 
+-- state 5 awaits the second word of a line
 pub awaits_at : (state : ℕ) → state ≡ 5 → doing_of state ≡ AwaitsSecond
 unfolding doing_of
 awaits_at state e = ap doing_of e

@@ -42,6 +42,7 @@ bus_by Nothing bus alerts = refl
 bus_by (Clears set) bus alerts = refl
 bus_by (Stores slot tag word0 word1) bus alerts = refl
 
+-- the alerts are the same whether a set is emptied, a line stored, or neither
 alerts_kept : (f : Filling) (bus : Req) (alerts : Alerts) → (out_by f bus alerts).alerts ≡ alerts
 alerts_kept Nothing bus alerts = refl
 alerts_kept (Clears set) bus alerts = refl
@@ -52,6 +53,7 @@ pub fetches : (w : WordPort) (i : WordIn) → IsFetch (out_of w i).bus
 unfolding out_of wires_of
 fetches w i = subst IsFetch (sym (bus_by (filling_of w i) (wires_of w i) (alerts_of w i))) (fetches_by _ _)
 
+-- a fetch is at a word's address, and no request is at address 0
 pub aligned_by : (r : Req) → IsFetch r → r.addr % 4 ≡ 0
 aligned_by r (no_fetch e) = ap (λ (q : Req). q.addr % 4) e
 aligned_by r (fetch_at addr k e) = ap (λ (q : Req). q.addr % 4) e ∙ k
@@ -66,10 +68,11 @@ whole_word word e = eqb-true (syndrome_of 32 7 word) 0 (not_false (syndrome_of 3
     not_false true e = refl
     not_false false e = absurd cc
 
+-- a word whose check bits agree isn't taken for a flipped one
 bad_word_not : (word : ℕ) → syndrome_of 32 7 word ≡ 0 → is_bad_word word ≡ false
 bad_word_not word e = ap not (eq-eqb (syndrome_of 32 7 word) 0 e)
 
--- tests by their parts
+-- a test that compares two numbers tells their order
 leb-true : (a b : ℕ) → nat_le a b ≡ true → a ≤ b
 leb-true a b e = by (cases_lt b a)
   where
@@ -77,22 +80,27 @@ leb-true a b e = by (cases_lt b a)
     by (inl lt) = let no_ : false ≡ true = sym (lt-leb a b lt) ∙ e in absurd cc
     by (inr le) = le
 
+-- where two tests hold together, each of them does
 and_parts : (a b : Bool) → (a && b) ≡ true → (a ≡ true) × (b ≡ true)
 and_parts true b e = (refl, e)
 and_parts false b e = absurd cc
 
+-- where each of two tests holds, they hold together
 and_true : (a b : Bool) → a ≡ true → b ≡ true → (a && b) ≡ true
 and_true true b e f = f
 and_true false b e f = e
 
+-- a test fails where its opposite holds
 not_true : (b : Bool) → not b ≡ true → b ≡ false
 not_true false e = refl
 not_true true e = absurd cc
 
+-- where not one of two tests holds, each of them fails
 or_false : (a b : Bool) → (a || b) ≡ false → (a ≡ false) × (b ≡ false)
 or_false true b e = absurd cc
 or_false false b e = (refl, e)
 
+-- where each of two tests fails, not one of them holds
 or_none : (a b : Bool) → a ≡ false → b ≡ false → (a || b) ≡ false
 or_none true b e f = e
 or_none false b e f = f
@@ -112,6 +120,7 @@ stored_by Answers came good ended e = absurd cc
 stored_by AsksBare came good ended e = absurd cc
 stored_by AwaitsBare came good ended e = absurd cc
 
+-- and it asks for no more than these four
 stores_if : (g : Doing) (came good ended : Bool) → g ≡ AwaitsSecond → came ≡ true → good ≡ true → ended ≡ true
     → stores_by g came good ended ≡ true
 stores_if g came good ended a b c d = cc
@@ -259,12 +268,14 @@ minor_by true false = refl
 minor_by false true = refl
 minor_by false false = refl
 
+-- BUS is bit 2, the highest, with MINOR or without
 bus_alert_by : (a b : Bool) → ((alerts_by a b).0 / 4 == 1) ≡ b
 bus_alert_by true true = refl
 bus_alert_by true false = refl
 bus_alert_by false true = refl
 bus_alert_by false false = refl
 
+-- no cause sets bit 1, which is INTERNAL
 internal_by : (a b : Bool) → (alerts_by a b).0 / 2 % 2 ≡ 0
 internal_by true true = refl
 internal_by true false = refl

@@ -25,6 +25,7 @@ pub held_fits : (st : IdState) (phase : ℕ) → phase < 2 ^ 3 → IsWithinWidth
 held_fits st phase h w =
     record { kind = w.kind; pc = w.pc; word = w.word; fault = w.fault; phase = h; count = count_fits st.count }
 
+-- a turn that holds the item in a phase of three bits leaves no field wider than it was
 holds : (st : IdState) (phase : ℕ) → phase < 2 ^ 3 → Keeps st (Hold (held phase st))
 holds st phase h next e w =
     let same : held phase st ≡ next = cc in
@@ -41,13 +42,16 @@ ends : (st : IdState) (cost : ℕ) (redirect : Bool) → Keeps st (ends_at cost 
 ends st cost redirect =
     either st (nat_le cost st.count) (Retire redirect) (Hold (held 1 st)) (λ next e w. cc) (holds st 1 (omega arith))
 
+-- an item that waits for its answer or its wake is held in phase 1, within the widths
 awaits : (st : IdState) (done : Bool) → Keeps st (if done then Retire false else Hold (held 1 st))
 awaits st done = either st done (Retire false) (Hold (held 1 st)) (λ next e w. cc) (holds st 1 (omega arith))
 
+-- a branch is an item that ends at its cost: one cycle where it redirects, and none where it doesn't
 branched : (st : IdState) (took : Bool) → Keeps st (branches took st)
 branched st true = ends st 1 true
 branched st false = ends st 0 false
 
+-- whatever the instruction, a cycle that doesn't end it keeps the fields to their bits
 works : (insn : Option Insn) (st : IdState) (i : IdIn) → Keeps st (worked insn st i)
 unfolding worked
 works (Some (Lui rd imm)) st i = ends st i.cost false
@@ -69,6 +73,7 @@ works (Some Mret) st i = ends st 1 true
 works (Some Wfi) st i = awaits st i.wake
 works None st i = ends st i.cost false
 
+-- a failed portion or a cause holds the item in phase 2, 3 or 4, for which three bits are enough
 reals : (st : IdState) (i : IdIn) → Keeps st (real_turn st i)
 unfolding real_turn
 reals st i =

@@ -23,6 +23,7 @@ count_later n = grind (arith, nat_tests)
 not_yet : (cost n : ℕ) → cost < 64 → n < cost → nat_le cost (min n 63) ≡ false
 not_yet cost n h lo = grind (arith, nat_tests)
 
+-- a count that stops at 63 still reaches every cost below 64
 just_now : (cost : ℕ) → cost < 64 → nat_le cost (min cost 63) ≡ true
 just_now cost h = grind (arith, nat_tests)
 
@@ -54,9 +55,11 @@ module _ (st : IdState) (i : IdIn) (wires : Wires) (enters : st ≡ at st 0) whe
       ap (λ (s : IdState). left_by s (turn_of s (input_in i wires n))) before
       ∙ ap (λ (t : Turn). left_by (at st n) t) step
 
+  -- so what the stage does in cycle n is the turn of that state
   turns : (n : ℕ) → Holds st i wires n → turn_in st i wires n ≡ turn_of (at st n) (input_in i wires n)
   turns n h = ap (λ (s : IdState). turn_of s (input_in i wires n)) (reaches n h)
 
+  -- an item that is held in each of these states is still there in cycle n
   there : (n : ℕ) → Holds st i wires n → IsThere st i wires n
   there n h k lo = rw (add-one k) (turns k (λ j low. h j (omega arith)) ∙ h k lo)
 
@@ -125,6 +128,7 @@ branched : (took : Bool) (st : IdState) (i : IdIn) → branches took st ≡ work
 branched true st i = refl
 branched false st i = refl
 
+-- no instruction turns otherwise than by its row of the table, where MulDiv alone is handed a cost
 work_is : (insn : Option Insn) (st : IdState) (i : IdIn) → IsCosted insn i.cost
     → worked insn st i ≡ worked_by (cost_of insn i) st i
 unfolding worked cost_of
@@ -154,6 +158,7 @@ ends_later st cost n redirect h lo =
     ap (λ (b : Bool). if b then Retire redirect else Hold (held 1 (at st n))) (not_yet cost n h lo)
     ∙ ap Hold (later st 1 n)
 
+-- in the cycle that its cost names the item retires, and redirects where it is to
 ends_now : (st : IdState) (cost : ℕ) (redirect : Bool) → cost < 64
     → ends_at cost redirect (at st cost) ≡ Retire redirect
 ends_now st cost redirect h =
@@ -215,10 +220,12 @@ module _ (pc word fault : ℕ) (i : IdIn) (wires : Wires) where
   unfolding turn_of real_turn
   first n h e = fails_in n 1 h e refl refl
 
+  -- a failed second portion takes the item to phase 3, from which it traps in the next cycle
   second : (n : ℕ) → IsThere enters i wires n → wires.failed n ≡ 2 → IsTrapped enters i wires n 3 2
   unfolding turn_of real_turn
   second n h e = fails_in n 2 h e refl refl
 
+  -- a cause that the item brings is found as it enters, and it traps a cycle later without a failed portion
   trapped : (cause : ℕ) → i.trap ≡ Some cause → wires.failed 0 ≡ 0 → IsTrapped enters i wires 0 4 0
   unfolding turn_of real_turn
   trapped cause e sound =
@@ -228,6 +235,7 @@ module _ (pc word fault : ℕ) (i : IdIn) (wires : Wires) where
       found enters i wires refl 0 4 0 (λ k lo. absurd (omega arith)) (brings ∙ ap Hold (later enters 4 0)) refl
 
   module _ (untrapped : i.trap ≡ None) (costed : IsCosted i.insn i.cost) where
+    -- without a failed portion and a cause, the cost alone tells what the item does in a cycle
     plain : (cost : Cost) (k : ℕ) → cost_of i.insn i ≡ cost → wires.failed k ≡ 0
         → turn_of (at enters k) (input_in i wires k) ≡ worked_by cost (at enters k) (input_in i wires k)
     plain cost k e sound =
@@ -236,6 +244,7 @@ module _ (pc word fault : ℕ) (i : IdIn) (wires : Wires) where
         ∙ work_is i.insn (at enters k) (input_in i wires k) costed
         ∙ ap (λ (c : Cost). worked_by c (at enters k) (input_in i wires k)) (same_cost i.insn i wires k ∙ e)
 
+    -- an item that takes so many cycles is held in each of them, and retires in the one after
     takes : (cycles : ℕ) (redirects : Bool) → cost_of i.insn i ≡ Takes cycles redirects → cycles < 64
         → IsSound wires (cycles + 1) → IsDone enters i wires cycles (Retire redirects)
     takes cycles redirects e few sound =
@@ -244,19 +253,21 @@ module _ (pc word fault : ℕ) (i : IdIn) (wires : Wires) where
         ∙ ends_later enters cycles k redirects few lo)
         (plain (Takes cycles redirects) cycles e (sound cycles (omega arith)) ∙ ends_now enters cycles redirects few)
 
-    -- a cycle without the answer or the wake, and one with it
+    -- a cycle without the answer leaves the access in the stage
     unanswered : (k : ℕ) → cost_of i.insn i ≡ ToAnswer → wires.failed k ≡ 0 → wires.answered k ≡ false
         → turn_of (at enters k) (input_in i wires k) ≡ Hold (at enters (suc k))
     unanswered k e sound low =
         plain ToAnswer k e sound ∙ ap (λ (b : Bool). if b then Retire false else Hold (held 1 (at enters k))) low
         ∙ ap Hold (later enters 1 k)
 
+    -- a cycle without the wake leaves the item asleep in the stage
     asleep : (k : ℕ) → cost_of i.insn i ≡ ToWake → wires.failed k ≡ 0 → wires.wake k ≡ false
         → turn_of (at enters k) (input_in i wires k) ≡ Hold (at enters (suc k))
     asleep k e sound low =
         plain ToWake k e sound ∙ ap (λ (b : Bool). if b then Retire false else Hold (held 1 (at enters k))) low
         ∙ ap Hold (later enters 1 k)
 
+    -- so each kind of cost is kept: the cycles, the wait for an answer, and the wait for a wake
     row : KeepsRow enters i wires
     row = record {
       takes = takes;
@@ -297,6 +308,7 @@ module _ (pc word fault : ℕ) (i : IdIn) (wires : Wires) (few : i.cost < 64) wh
   unfolding turn_of
   dummy_is k = ap (λ (b : Bool). dummy_by b (at dummy_enters k)) (still_by k (nat_le i.cost (min k 63)))
 
+  -- so a dummy is held in each cycle before its cost, and done in that one
   dummy : IsDone dummy_enters i wires i.cost Dummy
   dummy =
       done dummy_enters i wires refl i.cost Dummy

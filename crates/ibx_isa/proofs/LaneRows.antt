@@ -18,6 +18,7 @@ row_is v s a w e lt = shl_whole w 32 (8 * (a % 4)) 64 lt (omega arith) ∙ rw (e
 first_lanes : (v s a : ℕ) → v % 256 ^ s * 256 ^ (a % 4) % 4294967296 ≡ bytes_number (lane_byte a s v false) 4
 first_lanes v s a = mod-bytes (v % 256 ^ s * 256 ^ (a % 4)) 4 ∙ same_bytes _ _ 4 (λ k _. placed_byte v s (a % 4) k)
 
+-- an access that crosses a word leaves its last bytes in the upper word, from lane 0 on
 second_lanes : (v s a : ℕ) → v % 256 ^ s * 256 ^ (a % 4) / 4294967296 % 4294967296
     ≡ bytes_number (lane_byte a s v true) 4
 second_lanes v s a =
@@ -30,6 +31,7 @@ pub lanes_first : (v s a w : ℕ) → w ≡ v % 256 ^ s → w < 2 ^ 32
     → w * 2 ^ (8 * (a % 4)) % 18446744073709551616 % 4294967296 ≡ bytes_number (lane_byte a s v false) 4
 lanes_first v s a w e lt = rw (row_is v s a w e lt) (first_lanes v s a)
 
+-- the upper word of the computed row needs no cut: nothing stands above 64 bits
 pub lanes_second : (v s a w : ℕ) → w ≡ v % 256 ^ s → w < 2 ^ 32
     → w * 2 ^ (8 * (a % 4)) % 18446744073709551616 / 4294967296 ≡ bytes_number (lane_byte a s v true) 4
 lanes_second v s a w e lt =
@@ -84,6 +86,7 @@ enables_first a s le =
     (five (λ x. row_of 3 x % 16 ≡ bits_number (held_at 3 x false) 4) refl refl refl refl refl)
     (a % 4) (omega arith) s le
 
+-- what the row has above its lowest four enables goes to the second portion
 pub enables_second : (a s : ℕ) → s ≤ 4
     → (1 * 2 ^ s % 4294967296 - 1) * 2 ^ (a % 4) % 4294967296 / 16 ≡ bits_number (is_held a s true) 4
 unfolding bits_number row_of held_at
@@ -122,6 +125,7 @@ ones_at second o s lt le =
           o lt s le
     ]
 
+-- a portion drives one enable for each byte of the access that it carries
 pub as_many : (a s : ℕ) (second : Bool) → s ≤ 4
     → count_ones (bits_number (is_held a s second) 4) ≡ portion_size a s second
 unfolding held_at size_at

@@ -16,6 +16,7 @@ firsts : {I O : Type 0} (l : List (I × O)) (i : I) (o : O) (is : List I)
 firsts [] i o is = refl
 firsts (x ∷ l) i o is = ap (λ ys. x.0 ∷ ys) (firsts l i o is)
 
+-- the newest output stands behind the ones that main gave before it
 seconds : {I O : Type 0} (l : List (I × O)) (i : I) (o : O) (os : List O)
     → map (λ (x : I × O). x.1) (l ++ (i, o) ∷ []) ++ os ≡ map (λ (x : I × O). x.1) l ++ o ∷ os
 seconds [] i o os = refl
@@ -34,6 +35,7 @@ module _ {S I O : Type 0} (d : ℕ) (gives : S → I → O) (leaves : S → I �
       (le-leb d d (omega arith))
       ∙ ap (at_age (leaves m i) (leaves s x.0) (xs ++ (i, o) ∷ [])) e
 
+  -- below full age a cycle moves main alone, and the age rises by one
   early_step : (m s : S) (x : I × O) (xs : List (I × O)) (a : ℕ) (i : I) (o : O) → a < d
       → stepped_after d leaves (at_age m s (x ∷ xs) a) i o ≡ at_age (leaves m i) s (xs ++ (i, o) ∷ []) (a + 1)
   early_step m s x xs a i o less =
@@ -62,7 +64,7 @@ module _ {S I O : Type 0} (d : ℕ) (gives : S → I → O) (leaves : S → I �
       ∙ ap (λ os. differences agree (outputs_alone gives leaves s (map (λ (x : I × O). x.0) l ++ i ∷ inputs ts)) os)
       (seconds l i o (outputs d gives leaves p ts))
 
-  -- the findings of a run at full age, cycle by cycle, are those of the shadow's run d cycles later
+  -- at full age a cycle tells the difference of the oldest output, and the cycles after it those of the next ones
   full_turn : (m s : S) (x : I × O) (xs : List (I × O)) (i : I) (ts : List (Option S × I))
       → (let p = at_age (leaves m i) (leaves s x.0) (xs ++ (i, gives m i) ∷ []) d in
       findings d gives leaves agree p ts ≡ take (length ts) (expected (leaves s x.0) (xs ++ (i, gives m i) ∷ []) p ts))
@@ -78,6 +80,7 @@ module _ {S I O : Type 0} (d : ℕ) (gives : S → I → O) (leaves : S → I �
       (ap (λ b. (b && tells) ∷ findings d gives leaves agree p ts) (le-leb d d (omega arith))
       ∙ ap (λ bs. tells ∷ bs) (rest ∙ ap (take (length ts)) (next_is (leaves s x.0) xs i o p ts)))
 
+  -- a run at full age tells main's differences from the core that isn't replaced, the oldest delayed output first
   settled : (m s : S) (l : List (I × O)) (ts : List (Option S × I)) → 1 ≤ length l
       → findings d gives leaves agree (at_age m s l d) ts ≡ take (length ts) (expected s l (at_age m s l d) ts)
   settled m s [] ts some = absurd (omega arith)
@@ -109,6 +112,7 @@ module _ {S I O : Type 0} (d : ℕ) (gives : S → I → O) (leaves : S → I �
       ∙ ap (λ bs. false ∷ bs) (rest ∙ ap (λ zs. take (length ts) (replicate (length js) false ++ zs))
       (next_is s l i o p ts)))
 
+  -- a run is silent for as many cycles as its age lacks of d, and then tells each difference
   filling : (m s : S) (js l : List (I × O)) (a : ℕ) (ts : List (Option S × I)) → a + length js ≡ d
       → 1 ≤ length js + length l
       → findings d gives leaves agree (at_age m s (js ++ l) a) ts
@@ -166,6 +170,7 @@ module _ {O : Type 0} (agree : O → O → Bool) where
       let both = or_parts (not (agree x y)) (list_any (λ told. told) (take n (differences agree xs ys))) h in
       (not-false (agree x y) both.0, same_first n xs ys (omega arith) (omega arith) both.1)
 
+  -- where each output agrees with itself, a list of outputs has no difference from itself
   never_differs : ((o : O) → agree o o ≡ true) → (xs : List O) (n : ℕ) → IsSilent (take n (differences agree xs xs))
   never_differs self [] zero = refl
   never_differs self [] (suc n) = refl
@@ -185,6 +190,7 @@ module _ {S I O : Type 0} (d : ℕ) (gives : S → I → O) (leaves : S → I �
   length-alone s [] = refl
   length-alone s (t ∷ ts) = ap suc (length-alone (leaves s t.1) ts)
 
+  -- the pair has one output of main's a cycle too, whatever is put in main's place
   length-outputs : (p : Lockstep S I O) (ts : List (Option S × I)) → length (outputs d gives leaves p ts) ≡ length ts
   length-outputs p [] = refl
   length-outputs p (t ∷ ts) = ap suc (length-outputs (after_turn d gives leaves p t) ts)
@@ -206,6 +212,7 @@ module _ {S I O : Type 0} (d : ℕ) (gives : S → I → O) (leaves : S → I �
       (omega (arith, length-outputs p ts))
       (skipped d (length ts) (differences agree xs ys) (subst IsSilent (tells ts) silent))
 
+  -- a run in which nothing is changed tells no difference, where each output agrees with itself
   pub stays_quiet : (agree : O → O → Bool) (p : Lockstep S I O) → TellsLater d gives leaves agree p
       → StaysQuiet d gives leaves agree p
   stays_quiet agree p tells self is =
@@ -219,6 +226,7 @@ module _ {S I O : Type 0} (d : ℕ) (gives : S → I → O) (leaves : S → I �
       (padded d (length ts) (differences agree (alone (inputs ts)) (alone (inputs ts)))
       (never_differs agree self (alone (inputs ts)))))
 
+  -- whatever happens to the shadow, the delayed pairs and the age, main's outputs are those of main alone
   pub keeps_main : (p : Lockstep S I O) → KeepsMain d gives leaves p
   keeps_main p [] = refl
   keeps_main p ((None, i) ∷ ts) =

@@ -12,25 +12,32 @@ module _ {T : Type 0} where
   pub newer_filled : (x : T) → value_back 2 (filled x) 1 ≡ x
   newer_filled x = value-filled 2 x 1 (omega arith) (omega arith)
 
+  -- the older of two values that were filled with one is that one too
   pub older_filled : (x : T) → value_back 2 (filled x) 2 ≡ x
   older_filled x = value-filled 2 x 2 (omega arith) (omega arith)
 
+  -- the value that was pushed last is the newer one
   pub newer_pushed : (s : Slots T) (x : T) → value_back 2 (after_push 2 s x) 1 ≡ x
   newer_pushed s x = newest 2 s x (omega arith) (omega arith)
 
+  -- a push makes the newer value the older one
   pub older_pushed : (s : Slots T) (x : T) → value_back 2 (after_push 2 s x) 2 ≡ value_back 2 s 1
   older_pushed s x = older 2 s x 2 (omega arith) (omega arith) (omega arith)
 
+  -- a value that is set in the older one's place is read back there
   set_older : (s : Slots T) (x : T) → value_back 2 (with_value_back 2 s 2 x) 2 ≡ x
   set_older s x = here 2 s 2 x (omega arith) (omega arith)
 
+  -- setting the newer value leaves the older one
   older_stays : (s : Slots T) (x : T) → value_back 2 (with_value_back 2 s 1 x) 2 ≡ value_back 2 s 2
   older_stays s x =
       others 2 s 1 2 x (omega arith) (omega arith) (omega arith) (omega arith) (omega arith) (λ e. omega arith)
 
+  -- a value that is set in the newer one's place is read back there
   set_newer : (s : Slots T) (x : T) → value_back 2 (with_value_back 2 s 1 x) 1 ≡ x
   set_newer s x = here 2 s 1 x (omega arith) (omega arith)
 
+  -- setting the older value leaves the newer one
   newer_stays : (s : Slots T) (x : T) → value_back 2 (with_value_back 2 s 2 x) 1 ≡ value_back 2 s 1
   newer_stays s x =
       others 2 s 2 1 x (omega arith) (omega arith) (omega arith) (omega arith) (omega arith) (λ e. omega arith)

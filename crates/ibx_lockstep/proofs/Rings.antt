@@ -16,6 +16,7 @@ newest_place (suc (suc (suc zero))) p some four = omega arith
 newest_place (suc (suc (suc (suc zero)))) p some four = omega arith
 newest_place (suc (suc (suc (suc (suc d))))) p some four = omega arith
 
+-- a push makes a kept value one older and leaves it in its slot
 later_place : (d p k : ℕ) → d ≤ 4 → 1 ≤ k → k < d → ((p % d + 1) % d + d - suc k) % d ≡ (p + d - k) % d
 later_place zero p k four some kept = omega arith
 later_place (suc zero) p k four some kept = omega arith
@@ -33,6 +34,7 @@ apart_place (suc (suc (suc zero))) p j k four some less kept e = omega arith
 apart_place (suc (suc (suc (suc zero)))) p j k four some less kept e = omega arith
 apart_place (suc (suc (suc (suc (suc d))))) p j k four some less kept e = omega arith
 
+-- two ages have two slots, whichever of them is the greater
 places_apart : (d p j k : ℕ) → d ≤ 4 → 1 ≤ j → j ≤ d → 1 ≤ k → k ≤ d → (j ≡ k → ⊥) → (p + d - k) % d ≡ (p + d - j) % d
     → ⊥
 places_apart d p j k four first last some kept apart e =
@@ -44,6 +46,7 @@ places_apart d p j k four first last some kept apart e =
       ]
     ]
 
+-- the slot that a push writes holds none of the d - 1 newest values
 older_place : (d p k : ℕ) → d ≤ 4 → 1 ≤ k → k < d → p % d ≡ (p + d - k) % d → ⊥
 older_place zero p k four some kept e = omega arith
 older_place (suc zero) p k four some kept e = omega arith
@@ -62,7 +65,7 @@ in_four (suc (suc (suc (suc zero)))) n some four = omega arith
 in_four (suc (suc (suc (suc (suc d))))) n some four = omega arith
 
 module _ {T : Type 0} where
-  -- a value that is put into a slot stands there, and nothing else changes
+  -- a value that is put into a slot leaves the place of the next push
   place-put : (r : Slots T) (n : ℕ) (x : T) → n < 4 → (put r n x).place ≡ r.place
   unfolding put
   place-put r zero x p = refl
@@ -71,6 +74,7 @@ module _ {T : Type 0} where
   place-put r (suc (suc (suc zero))) x p = refl
   place-put r (suc (suc (suc (suc n)))) x p = absurd (omega arith)
 
+  -- a value that is put into one of the four slots is read back from it
   slot-put_same : (r : Slots T) (n : ℕ) (x : T) → n < 4 → slot (put r n x) n ≡ x
   unfolding put slot
   slot-put_same r zero x p = refl
@@ -79,6 +83,7 @@ module _ {T : Type 0} where
   slot-put_same r (suc (suc (suc zero))) x p = refl
   slot-put_same r (suc (suc (suc (suc n)))) x p = absurd (omega arith)
 
+  -- each other slot keeps the value that it had
   slot-put_other : (r : Slots T) (n m : ℕ) (x : T) → n < 4 → m < 4 → (n ≡ m → ⊥) → slot (put r n x) m ≡ slot r m
   unfolding put slot
   slot-put_other r zero zero x p q apart = absurd (apart refl)
@@ -103,6 +108,7 @@ module _ {T : Type 0} where
   slot-put_other r (suc (suc (suc zero))) (suc (suc (suc (suc m)))) x p q apart = absurd (omega arith)
   slot-put_other r (suc (suc (suc (suc n)))) m x p q apart = absurd (omega arith)
 
+  -- slots that are filled with a value have it in each of the four
   slot-filled : (n : ℕ) (x : T) → n < 4 → slot (filled x) n ≡ x
   unfolding slot
   slot-filled zero x p = refl
@@ -118,11 +124,13 @@ module _ {T : Type 0} (d : ℕ) where
   unfolding value_back
   value-filled x k some four = slot-filled ((0 + d - k) % d) x (in_four d (0 + d - k) some four)
 
+  -- the newest value after a push is the one that was pushed
   pub newest : (s : Slots T) (x : T) → 1 ≤ d → d ≤ 4 → value_back d (after_push d s x) 1 ≡ x
   unfolding value_back after_push slot
   newest s x some four = ap (slot (put s (s.place % d) x)) (newest_place d s.place some four)
       ∙ slot-put_same s (s.place % d) x (in_four d s.place some four)
 
+  -- each value that a push keeps is then one push older
   later : (s : Slots T) (x : T) (k : ℕ) → d ≤ 4 → 1 ≤ k → k < d
       → value_back d (after_push d s x) (suc k) ≡ value_back d s k
   unfolding value_back after_push slot
@@ -132,6 +140,7 @@ module _ {T : Type 0} (d : ℕ) where
       ∙ slot-put_other s (s.place % d) ((s.place + d - k) % d) x (in_four d s.place one four)
       (in_four d (s.place + d - k) one four) (older_place d s.place k four some kept)
 
+  -- after a push the k-th value back is the one that was k - 1 back before it
   pub older : (s : Slots T) (x : T) (k : ℕ) → d ≤ 4 → 1 < k → k ≤ d
       → value_back d (after_push d s x) k ≡ value_back d s (k - 1)
   older s x zero four some kept = absurd (omega arith)
@@ -147,6 +156,7 @@ module _ {T : Type 0} (d : ℕ) where
       ap (λ p. slot (put s ((s.place + d - k) % d) x) ((p + d - k) % d)) (place-put s ((s.place + d - k) % d) x inside)
       ∙ slot-put_same s ((s.place + d - k) % d) x inside
 
+  -- setting a value back leaves each value that stands in another slot
   elsewhere : (s : Slots T) (k j : ℕ) (x : T) → d ≤ 4 → 1 ≤ d → ((s.place + d - k) % d ≡ (s.place + d - j) % d → ⊥)
       → value_back d (with_value_back d s k x) j ≡ value_back d s j
   unfolding value_back with_value_back
@@ -156,6 +166,7 @@ module _ {T : Type 0} (d : ℕ) where
       ∙ slot-put_other s ((s.place + d - k) % d) ((s.place + d - j) % d) x inside
       (in_four d (s.place + d - j) some four) apart
 
+  -- so it leaves each value of another age, as ages up to d have slots of their own
   pub others : (s : Slots T) (k j : ℕ) (x : T) → d ≤ 4 → 1 ≤ k → k ≤ d → 1 ≤ j → j ≤ d → (j ≡ k → ⊥)
       → value_back d (with_value_back d s k x) j ≡ value_back d s j
   others s k j x four some kept first last apart =
@@ -170,6 +181,7 @@ module _ {T : Type 0} (d : ℕ) where
       ap (λ y. y ∷ values_back d (filled x) (suc k) n) (value-filled d x k some four)
       ∙ ap (λ ys. x ∷ ys) (values-filled (suc k) n x some four)
 
+  -- entry i of the values from the j-th push on is that of push j + i, counted back from now
   get-values : (s : Slots T) (j n i : ℕ) → i < n → slice_get (values_back d s j n) i ≡ Some (value_back d s (j + i))
   get-values s j zero i less = absurd (omega arith)
   get-values s j (suc n) zero less = let e : j ≡ j + 0 = omega arith in ap (λ k. Some (value_back d s k)) e
@@ -177,12 +189,14 @@ module _ {T : Type 0} (d : ℕ) where
       let e : suc j + i ≡ j + suc i = omega arith in
       get-values s (suc j) n i (omega arith) ∙ ap (λ k. Some (value_back d s k)) e
 
+  -- the first n of more values are the n values from the same push on
   take-values : (s : Slots T) (k n m : ℕ) → n ≤ m → take n (values_back d s k m) ≡ values_back d s k n
   take-values s k zero zero le = refl
   take-values s k zero (suc m) le = refl
   take-values s k (suc n) zero le = absurd (omega arith)
   take-values s k (suc n) (suc m) le = ap (λ ys. value_back d s k ∷ ys) (take-values s (suc k) n m (omega arith))
 
+  -- the values that a push keeps stand one push further back, in the same order
   values-pushed : (s : Slots T) (x : T) (k n : ℕ) → d ≤ 4 → 1 ≤ k → k + n ≤ d
       → values_back d (after_push d s x) (suc k) n ≡ values_back d s k n
   values-pushed s x k zero four some kept = refl
@@ -190,6 +204,7 @@ module _ {T : Type 0} (d : ℕ) where
       ap (λ y. y ∷ values_back d (after_push d s x) (suc (suc k)) n) (later d s x k four some (omega arith))
       ∙ ap (λ ys. value_back d s k ∷ ys) (values-pushed s x (suc k) n four (omega arith) (omega arith))
 
+  -- after a push the d values are the pushed one and those before it, without the oldest
   values-pushed_all : (s : Slots T) (x : T) (n : ℕ) → 1 ≤ n → d ≤ 4 → n ≡ d
       → values_back d (after_push d s x) 1 n ≡ take n (x ∷ values_back d s 1 n)
   values-pushed_all s x zero some four e = absurd (omega arith)
@@ -198,6 +213,7 @@ module _ {T : Type 0} (d : ℕ) where
       ∙ ap (λ ys. x ∷ ys) (values-pushed s x 1 n four (omega arith) (omega arith)
       ∙ sym (take-values s 1 n (suc n) (omega arith)))
 
+  -- setting a value back leaves all values that are older than it
   values-behind : (s : Slots T) (k : ℕ) (x : T) (j n : ℕ) → d ≤ 4 → 1 ≤ k → k < j → j + n ≤ suc d
       → values_back d (with_value_back d s k x) j n ≡ values_back d s j n
   values-behind s k x j zero four some less kept = refl
@@ -206,6 +222,7 @@ module _ {T : Type 0} (d : ℕ) where
       (others d s k j x four some (omega arith) (omega arith) (omega arith) (λ same. omega arith))
       ∙ ap (λ ys. value_back d s j ∷ ys) (values-behind s k x (suc j) n four some (omega arith) (omega arith))
 
+  -- setting a value back changes its own entry of a list of values, and no other
   values-with_back : (s : Slots T) (k : ℕ) (x : T) (j n i : ℕ) → d ≤ 4 → 1 ≤ j → j + i ≡ k → k < j + n → j + n ≤ suc d
       → values_back d (with_value_back d s k x) j n ≡ slice_set (values_back d s j n) i x
   values-with_back s k x j zero i four some e less kept = absurd (omega arith)
@@ -227,16 +244,19 @@ module _ {T : Type 0} (d : ℕ) where
   unfolding recent
   recent-fresh x some four = values-filled d 1 d x some four
 
+  -- a push puts its value in front of the last d, and the oldest drops out
   pub recent-pushed : (r : Ring T d) (x : T) → 1 ≤ d → d ≤ 4 → recent (pushed r x) ≡ take d (x ∷ recent r)
   unfolding recent
   recent-pushed r x some four = values-pushed_all d r.slots x d some four refl
 
+  -- setting the value of the k-th push back changes entry k - 1 of the last d
   pub recent-with_back : (r : Ring T d) (k : ℕ) (x : T) → d ≤ 4 → 1 ≤ k → k ≤ d
       → recent (with_back r k x) ≡ slice_set (recent r) (k - 1) x
   unfolding recent
   recent-with_back r k x four some kept =
       values-with_back d r.slots k x 1 d (k - 1) four (omega arith) (omega arith) (omega arith) (omega arith)
 
+  -- entry k - 1 of the last d values is that of the k-th push before now
   pub get-recent : (r : Ring T d) (k : ℕ) → 1 ≤ k → k ≤ d → slice_get (recent r) (k - 1) ≡ Some (back_of r k)
   unfolding recent
   get-recent r k some kept =

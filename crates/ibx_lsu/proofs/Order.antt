@@ -24,6 +24,7 @@ turn_is : (s : Stage) (f : ℕ) (u : Lsu) (want : Access) (rsp : Rsp) → Is s f
 unfolding turn_of
 turn_is s f u want rsp is = rw (is.about, is.kept) refl
 
+-- the fields after a cycle are those that its stage gives for the answer and the grant
 next_is : (s : Stage) (f : ℕ) (u : Lsu) (want : Access) (rsp : Rsp) (g : Bool) → Is s f u
     → next_of u want rsp g ≡ next_at s f want rsp g
 unfolding next_of
@@ -36,6 +37,7 @@ module _ (u : Lsu) (want : Access) (bus : Bus) where
   unfolding fields_at
   step s f c is = rw (add-one c) (next_is s f (fields_at u want bus c) want (bus.rsp c) (bus.granted c) is)
 
+  -- what the unit drives in a cycle is told by its stage, the kept word and the bus's answer
   turn : (s : Stage) (f c : ℕ) → Is s f (fields_at u want bus c) → turn_in u want bus c ≡ turn_at s f want (bus.rsp c)
   turn s f c is = turn_is s f (fields_at u want bus c) want (bus.rsp c) is
 
@@ -52,7 +54,7 @@ module _ (u : Lsu) (want : Access) (bus : Bus) where
       subst (λ (n : ℕ). Is AskFirst 0 (fields_at u want bus n)) later
       (subst (λ (v : Lsu). Is AskFirst 0 v) (sym next) (record { about = refl; kept = refl }))
 
-  -- a second portion is asked for until its grant, and awaited until its answer
+  -- a second portion is asked for until it is granted, with the word of the first one kept
   asking_second : (f issue grant d : ℕ) → issue + d ≤ grant → ((c : ℕ) → issue ≤ c → c < grant → bus.granted c ≡ false)
       → Is AskSecond f (fields_at u want bus issue) → Is AskSecond f (fields_at u want bus (issue + d))
   asking_second f issue grant zero le held is = rw (add-zero issue) is
@@ -65,7 +67,7 @@ module _ (u : Lsu) (want : Access) (bus : Bus) where
       subst (λ (n : ℕ). Is AskSecond f (fields_at u want bus n)) later
       (subst (λ (v : Lsu). Is AskSecond f v) (sym next) (record { about = refl; kept = refl }))
 
-  -- and then waited for
+  -- while no answer comes the first portion is awaited
   awaiting_first : (from answer d : ℕ) → from + d ≤ answer
       → ((c : ℕ) → from ≤ c → c < answer → reply_of (bus.rsp c) ≡ Silent)
       → Is AwaitFirst 0 (fields_at u want bus from) → Is AwaitFirst 0 (fields_at u want bus (from + d))
@@ -80,6 +82,7 @@ module _ (u : Lsu) (want : Access) (bus : Bus) where
       subst (λ (n : ℕ). Is AwaitFirst 0 (fields_at u want bus n)) later
       (subst (λ (v : Lsu). Is AwaitFirst 0 v) (sym next) (record { about = refl; kept = refl }))
 
+  -- while no answer comes the second portion is awaited, and the first one's word stays kept
   awaiting_second : (f from answer d : ℕ) → from + d ≤ answer
       → ((c : ℕ) → from ≤ c → c < answer → reply_of (bus.rsp c) ≡ Silent)
       → Is AwaitSecond f (fields_at u want bus from) → Is AwaitSecond f (fields_at u want bus (from + d))
@@ -93,7 +96,7 @@ module _ (u : Lsu) (want : Access) (bus : Bus) where
       subst (λ (n : ℕ). Is AwaitSecond f (fields_at u want bus n)) later
       (subst (λ (v : Lsu). Is AwaitSecond f v) (sym next) (record { about = refl; kept = refl }))
 
-  -- the state by the cycle
+  -- the first portion is asked for in each cycle from its first one until its grant
   ask_first : (issue c : ℕ) → IsUngranted bus issue c → Is AskFirst 0 (fields_at u want bus issue)
       → Is AskFirst 0 (fields_at u want bus c)
   ask_first issue c un is =
@@ -102,7 +105,7 @@ module _ (u : Lsu) (want : Access) (bus : Bus) where
       subst (λ (n : ℕ). Is AskFirst 0 (fields_at u want bus n)) same
       (asking_first issue c (c - issue) (omega arith) un.held is)
 
-  -- the stage after a grant, at the first good answer, and after the second grant
+  -- from the cycle after its grant on the first portion is awaited, until its answer is there
   await_first : (issue grant c : ℕ) → IsUnanswered bus issue grant c → Is AskFirst 0 (fields_at u want bus issue)
       → Is AwaitFirst 0 (fields_at u want bus c)
   await_first issue grant c un is =
@@ -115,6 +118,7 @@ module _ (u : Lsu) (want : Access) (bus : Bus) where
       subst (λ (n : ℕ). Is AwaitFirst 0 (fields_at u want bus n)) same
       (awaiting_first (grant + 1) c (c - (grant + 1)) (omega arith) (λ k lo hi. un.silent k (omega arith) hi) begins)
 
+  -- the second portion is asked for in each cycle from its first one until its grant
   ask_second : (f issue c : ℕ) → IsUngranted bus issue c → Is AskSecond f (fields_at u want bus issue)
       → Is AskSecond f (fields_at u want bus c)
   ask_second f issue c un is =
@@ -123,6 +127,7 @@ module _ (u : Lsu) (want : Access) (bus : Bus) where
       subst (λ (n : ℕ). Is AskSecond f (fields_at u want bus n)) same
       (asking_second f issue c (c - issue) (omega arith) un.held is)
 
+  -- from the cycle after its grant on the second portion is awaited, until its answer is there
   await_second : (f issue grant c : ℕ) → IsUnanswered bus issue grant c → Is AskSecond f (fields_at u want bus issue)
       → Is AwaitSecond f (fields_at u want bus c)
   await_second f issue grant c un is =
@@ -183,6 +188,7 @@ module _ (want : Access) (bus : Bus) where
         more = λ e f. (answer_first idle_of want bus c Good true at e f).0;
       }
 
+  -- a good first answer of an access that crosses keeps its word, and the second portion is asked for next
   due : (grant past : ℕ) → HasMore want bus grant past
       → Is AskSecond (word_at bus past) (fields_at idle_of want bus (past + 1))
   due grant past m =
@@ -192,6 +198,7 @@ module _ (want : Access) (bus : Bus) where
       (answer_first idle_of want bus past Good true ended m.good m.crosses).1 in
       subst (λ (v : Lsu). Is AskSecond (word_at bus past) v) (sym next) (record { about = refl; kept = refl })
 
+  -- a cycle of the second wait goes on, faults with portion 2 or ends well, as its answer says
   second_cycle : (grant past other c : ℕ) → HasMore want bus grant past → IsUnanswered bus (past + 1) other c
       → AwaitsSecond idle_of want bus past c
   second_cycle grant past other c m un =

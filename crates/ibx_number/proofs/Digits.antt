@@ -33,6 +33,7 @@ is_one : (b : Bool) (v d : ℕ) → Some d ≡ cond b (Some v) None → (b ≡ t
 is_one true v d h = (refl, cc)
 is_one false v d h = cc
 
+-- a reading that gave nothing met a byte that is no digit of the base
 is_none_of : (b : Bool) (v : ℕ) → None ≡ cond b (Some v) None → b ≡ false
 is_none_of true v h = cc
 is_none_of false v h = refl
@@ -53,6 +54,7 @@ next_digit base value i d digits below h =
     let is = is_one (is_digit (get_or digits i 0) base) (digit_value (get_or digits i 0)) d h in
     rw (add-one, drop-cons digits i 0, ← is.1) (step base value (get_or digits i 0) (drop (suc i) digits) is.0)
 
+-- one byte that is no digit takes the value from all of them, however many were read before it
 pub no_digit : (base value i : ℕ) (digits : List ℕ) → i < length digits → None ≡ digit_of base (get_or digits i 0)
     → read_on base value (drop i digits) ≡ None
 unfolding value_in
@@ -64,6 +66,7 @@ no_digit base value i digits below h =
 pub none_read : (base : ℕ) (digits : List ℕ) → read_on base 0 digits ≡ value_in base digits
 none_read base digits = nothing_before base (length digits) (value_in base digits)
 
+-- with no digit to come, the value that was read is the result
 pub all_read : (base value : ℕ) → read_on base value [] ≡ Some value
 unfolding value_in
 all_read base value = ap Some (rw pow-zero (omega arith))
@@ -75,5 +78,6 @@ stays_small value base digit i small low d =
     rw add-one (let product : (value + 1) * base ≤ 16 ^ i * 16 = mul-le-mul (omega arith) low in
     omega (arith, pow-suc 16 i))
 
+-- ten digits of any base up to 16 make a value of at most 40 bits
 pub small_fits : (value i : ℕ) → i ≤ 10 → value < 16 ^ i → value < 2 ^ 40
 small_fits value i few small = omega (arith, pow-le-pow_right {n = 16} (lit< tt) {i = i} {j = 10} few)

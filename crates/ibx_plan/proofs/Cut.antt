@@ -33,6 +33,7 @@ word_cut ws i h = ap (λ (o : Option (List ℕ)). unwrap_or o []) (got 8 i ws h)
 same_count : (n m : ℕ) → m < 8 → nat_eq (min 8 n) m ≡ nat_eq n m
 same_count n m h = grind arith
 
+-- so a test for a number of words below eight may be made on the first eight
 count_cut : (ws : List (List ℕ)) (m : ℕ) → m < 8 → (length (take 8 ws) == m) ≡ (length ws == m)
 count_cut ws m h = rw (length-take 8 ws) (same_count (length ws) m h)
 
@@ -40,6 +41,7 @@ count_cut ws m h = rw (length-take 8 ws) (same_count (length ws) m h)
 pub skipped_cut : (ws : List (List ℕ)) → is_skipped (take 8 ws) ≡ is_skipped ws
 skipped_cut ws = rw (count_cut ws 0 (omega arith), word_cut ws 0 (omega arith))
 
+-- a name in a flip's line stands at index 3 or 4, and so among the first eight words
 named_cut : (k : Kind) (ws : List (List ℕ)) → named k (take 8 ws) ≡ named k ws
 unfolding named
 named_cut kind.Main ws = rw (word_cut ws 3 (omega arith))
@@ -71,6 +73,7 @@ short_of : (o : Option (List ℕ × Kind × ℕ)) → IfSome o (λ r. nat_lt r.2
 short_of None h = tt
 short_of (Some r) h = h
 
+-- each kind of flip has a line of fewer than eight words
 short : (name : List ℕ) → IfSome (flip_row name) (λ r. nat_lt r.1 8 ≡ true)
 unfolding flip_rows
 short name = short_of (find (λ r. bytes_eq name r.0) flip_rows)
@@ -83,12 +86,14 @@ kind_cut : (r : Option (Kind × ℕ)) (ws : List (List ℕ)) → IfSome r (λ r.
 kind_cut None ws h = refl
 kind_cut (Some r) ws h = rw (count_cut ws r.1 (grind (arith, h)), named_cut r.0 ws)
 
+-- the first eight words tell which site a flip names, since its kind is the third of them
 target_cut : (ws : List (List ℕ)) → target_of (take 8 ws) ≡ target_of ws
 unfolding target_of
 target_cut ws = subst (λ (name : List ℕ). option_and_then
     (λ r. if length (take 8 ws) == r.1 then named r.0 (take 8 ws) else None) (flip_row name) ≡ target_of ws)
     (sym (word_cut ws 2 (omega arith))) (kind_cut (flip_row (word ws 2)) ws (short (word ws 2)))
 
+-- a line fits the same row, or none, without the words behind its eighth
 row_cut : (ws : List (List ℕ)) → row_of (take 8 ws) ≡ row_of ws
 unfolding row_of
 row_cut ws = rw (word_cut ws 0 (omega arith), target_cut ws, count_cut ws 3 (omega arith))
@@ -106,6 +111,7 @@ numbers_cut ws (i ∷ is) h = rw (
   numbers_cut ws is (both (nat_lt i 8) (list_all (λ i. nat_lt i 8) is) h).1,
 )
 
+-- a flip's site has all its numbers at indices below 8
 site_low : (place : Target) → list_all (λ i. nat_lt i 8) (site_places place) ≡ true
 unfolding site_places
 site_low (target.Main field) = refl
@@ -118,6 +124,7 @@ site_low (target.Output wire) = refl
 site_low target.Answer = refl
 site_low target.Mem = refl
 
+-- each row has all its numbers at indices below 8
 low : (r : Row) → list_all (λ i. nat_lt i 8) (number_places r) ≡ true
 unfolding number_places
 low row.Iwait = refl
@@ -144,6 +151,7 @@ site_cut (target.Output wire) ws = rw (number_cut ws 4 (omega arith))
 site_cut target.Answer ws = rw (number_cut ws 3 (omega arith), number_cut ws 4 (omega arith))
 site_cut target.Mem ws = rw (number_cut ws 3 (omega arith), number_cut ws 4 (omega arith))
 
+-- the entry of a row takes no number from behind the eighth word
 entry_of_cut : (r : Row) (ws : List (List ℕ)) → entry_of r (number_at (take 8 ws)) ≡ entry_of r (number_at ws)
 unfolding entry_of
 entry_of_cut row.Iwait ws = rw (number_cut ws 1 (omega arith), number_cut ws 2 (omega arith))
@@ -151,11 +159,13 @@ entry_of_cut row.Dwait ws = rw (number_cut ws 1 (omega arith), number_cut ws 2 (
 entry_of_cut row.Irq ws = rw (number_cut ws 1 (omega arith), number_cut ws 2 (omega arith))
 entry_of_cut (row.Flip place) ws = rw (number_cut ws 1 (omega arith), site_cut place ws)
 
+-- a row has the same entry, or the same fault, without the words behind the eighth
 row_entry_cut : (bounds : Bounds) (ws : List (List ℕ)) (r : Option Row)
     → row_entry bounds (take 8 ws) r ≡ row_entry bounds ws r
 unfolding row_entry
 row_entry_cut bounds ws None = refl
 row_entry_cut bounds ws (Some r) = rw (numbers_cut ws (number_places r) (low r), entry_of_cut r ws)
 
+-- so eight words of a line are enough to read for its entry or its first fault
 pub entry_cut : (bounds : Bounds) (ws : List (List ℕ)) → line_entry bounds (take 8 ws) ≡ line_entry bounds ws
 entry_cut bounds ws = rw (row_cut ws) (row_entry_cut bounds ws (row_of ws))

@@ -27,6 +27,7 @@ kept : {X : Type 0} (f : Entry → Option X) (xs : List X) (es : List Entry) (e 
     → f e ≡ None → xs ≡ filter_map f (es ++ e ∷ [])
 kept f xs es e h gone = rw (filter_map-append f es (e ∷ []), gone, append-nil (filter_map f es)) h
 
+-- an entry of a kind goes to the end of that kind's entries
 grown : {X : Type 0} (f : Entry → Option X) (xs : List X) (es : List Entry) (e : Entry) (x : X) → xs ≡ filter_map f es
     → f e ≡ Some x → xs ++ x ∷ [] ≡ filter_map f (es ++ e ∷ [])
 grown f xs es e x h come = rw (filter_map-append f es (e ∷ []), come, h)
@@ -105,6 +106,7 @@ said_one bounds line plan next es true r h has = let same : plan ≡ next = cc i
 said_one bounds line plan next es false (Ok e) h has = add_one bounds line plan next es e h has
 said_one bounds line plan next es false (Err k) h has = cc
 
+-- a line that is accepted adds the entry that it says, and one that says nothing adds none
 line_one : (bounds : Bounds) (line : ℕ) (plan next : PlanValue) (es : List Entry) (text : List ℕ)
     → with_line bounds line plan text ≡ Ok next → Holds plan es → Holds next (es ++ option_to_list (said bounds text))
 unfolding with_line
@@ -128,6 +130,7 @@ all_lines bounds line plan next es (first ∷ more) h has =
     subst (Holds next) (append_assoc es (option_to_list (said bounds first)) (filter_map (said bounds) more)
     ∙ ap (λ (ys : List Entry). es ++ ys) (in_front (said bounds first) (filter_map (said bounds) more))) rest
 
+-- the plan that a whole text writes holds the entries of its lines, and no others
 whole : (bounds : Bounds) (text : List ℕ) (plan : PlanValue) → plan_of bounds text ≡ Ok plan
     → Holds plan (entries_of bounds text)
 unfolding plan_of

@@ -28,10 +28,12 @@ pub then_ok : {A B : Type 0} (r : Result A PlanFault) (f : A → Result B PlanFa
 then_ok (Ok x) f y h = (x, refl, h)
 then_ok (Err e) f y h = cc
 
+-- where a test chooses between a value and a fault, and there is no fault, it held and the value is the result
 pub chosen : {A E : Type 0} (b : Bool) (x : A) (e : E) (y : A) → cond b (Ok x) (Err e) ≡ Ok y → (b ≡ true) × (x ≡ y)
 chosen true x e y h = (refl, cc)
 chosen false x e y h = cc
 
+-- where a test guards a step, and there is no fault, the step gave the result
 pub passed : {A E : Type 0} (b : Bool) (r : Result A E) (e : E) (y : A) → cond b r (Err e) ≡ Ok y → r ≡ Ok y
 passed true r e y h = h
 passed false r e y h = cc
@@ -42,6 +44,7 @@ range_fits bounds x e h =
     let at = chosen (entry_fits bounds x) x kind.Range e h in
     subst (λ (y : Entry). entry_fits bounds y ≡ true) at.1 at.0
 
+-- the entry that a row gives has each of its numbers in range
 row_fits : (bounds : Bounds) (ws : List (List ℕ)) (r : Option Row) (e : Entry) → row_entry bounds ws r ≡ Ok e
     → entry_fits bounds e ≡ true
 unfolding row_entry
@@ -54,6 +57,7 @@ pub both : (a b : Bool) → (a && b) ≡ true → (a ≡ true) × (b ≡ true)
 both true b h = (refl, h)
 both false b h = cc
 
+-- a flip whose numbers are in range is in a cycle of the run, at a bit that there is
 flip_fits : (bounds : Bounds) (flip : Flip) → entry_fits bounds (entry.Flip flip) ≡ true → FlipFits bounds flip
 unfolding entry_fits
 flip_fits bounds flip h =
@@ -87,17 +91,20 @@ entry_keeps bounds line plan next (entry.Flip flip) good h fits =
     let at = chosen _ (record plan { flip = Some flip }) (fault.Line line kind.Flip) next h in
     subst (HasFit bounds) at.1 (flip_fits bounds flip good)
 
+-- what a line says is an entry in range, which keeps it so, or a fault, which leaves no plan
 said_keeps : (bounds : Bounds) (line : ℕ) (plan next : PlanValue) (r : Result Entry LineKind)
     → ((e : Entry) → r ≡ Ok e → entry_fits bounds e ≡ true) → with_said bounds line plan r ≡ Ok next
     → HasFit bounds plan → HasFit bounds next
 said_keeps bounds line plan next (Ok e) good h fits = entry_keeps bounds line plan next e (good e refl) h fits
 said_keeps bounds line plan next (Err k) good h fits = cc
 
+-- a line keeps it so where what it says does, and where it says nothing
 skip_keeps : (b : Bool) (bounds : Bounds) (plan next : PlanValue) (r : Result PlanValue PlanFault)
     → (r ≡ Ok next → HasFit bounds next) → cond b (Ok plan) r ≡ Ok next → HasFit bounds plan → HasFit bounds next
 skip_keeps true bounds plan next r keeps h fits = let e : plan ≡ next = cc in subst (HasFit bounds) e fits
 skip_keeps false bounds plan next r keeps h fits = keeps h
 
+-- so each line that is accepted keeps it so, whatever it says
 line_keeps : (bounds : Bounds) (line : ℕ) (plan next : PlanValue) (text : List ℕ)
     → with_line bounds line plan text ≡ Ok next → HasFit bounds plan → HasFit bounds next
 unfolding with_line
@@ -106,6 +113,7 @@ line_keeps bounds line plan next text h fits =
     (λ k. said_keeps bounds line plan next (line_entry bounds (words text))
     (λ e. row_fits bounds (words text) (row_of (words text)) e) k fits) h fits
 
+-- so do any lines, one after the other, of which none is refused
 lines_keep : (bounds : Bounds) (line : ℕ) (plan next : PlanValue) (text : List (List ℕ))
     → with_lines bounds line plan text ≡ Ok next → HasFit bounds plan → HasFit bounds next
 unfolding with_lines
@@ -126,6 +134,7 @@ whole_fits bounds text plan h =
     let at = then_ok (with_lines bounds 1 empty_plan (lines text)) (with_flip bounds) plan h in
     subst (HasFit bounds) (with_flip_ok _ at.0 plan at.2) (lines_keep bounds 1 empty_plan at.0 (lines text) at.1 tt)
 
+-- whatever a reading answers, a plan in it has no flip but one that the run can make
 pub plan_fits : (r : Result PlanValue PlanFault) (bounds : Bounds) (text : List ℕ) → ReadsPlan r (plan_of bounds text)
     → IfOk r (HasFit bounds)
 plan_fits (Ok plan) bounds text h = whole_fits bounds text plan h

@@ -52,6 +52,7 @@ skipped : (x : Change) (b : Bool) → b ≡ false → cond b (Some x) None ≡ N
 skipped x true h = cc
 skipped x false h = refl
 
+-- a change that is due gives the lines, whatever the search would find behind it
 taken : (x : Change) (b : Bool) (o : Option Change) → b ≡ true
     → option_map_or (λ c. c.mask) (cond b (Some x) o) 0 ≡ x.mask
 taken x true o h = refl
@@ -130,6 +131,7 @@ halves p d e n h k =
 one_more : (p d n : ℕ) → p * (2 * d) ≤ n → 1 ≤ d → p * 2 ≤ n
 one_more p d n h k = omega (arith, mul-le-mul_left {m = 2} {n = 2 * d} p (omega arith))
 
+-- one probe more doubles the power of two that counts them
 next_power : (before now : ℕ) → before ≤ now → 2 ^ (now + 1 - before) ≡ 2 ^ (now - before) * 2
 next_power before now h =
     let e : now + 1 - before ≡ suc (now - before) = omega arith in rw e (pow-suc 2 (now - before))
@@ -155,6 +157,7 @@ goes_up changes cycle lines low high before now middle low2 x h some e k due nex
           (one_more (2 ^ (now - before)) (high - low) (2 * length changes + 1) h.open_ (omega arith));
     }
 
+-- a probe that meets a change after the cycle brings the high end down to it
 pub goes_down : (changes : List Change) (cycle lines low high before now middle : ℕ) (x : Change)
     → rises_from 0 changes ≡ true → Halves changes cycle lines low high before now → low < high
     → middle ≡ low + (high - low) / 2 → x ≡ get_or changes middle x → cycle < x.cycle

@@ -39,9 +39,11 @@ first_at text below = rw (slice_split_first is_feed text 0 below)
 found_at : (n m end : ℕ) → cond (nat_lt n m) (Some n) None ≡ Some end → n ≡ end
 found_at n m end h = grind arith
 
+-- the index that a search found is below the length
 found_below : (n m end : ℕ) → cond (nat_lt n m) (Some n) None ≡ Some end → n < m
 found_below n m end h = grind arith
 
+-- a search that found nothing went on up to the length
 not_found : (n m : ℕ) → cond (nat_lt n m) (Some n) None ≡ None → m ≤ n
 not_found n m h = grind arith
 
@@ -55,5 +57,6 @@ first_of text end h = subst (λ (e : ℕ). lines text ≡ strip_carriage_return 
 one_part : (text : List ℕ) → 0 < length text → lines_of_parts (text ∷ []) ≡ text ∷ []
 one_part text h = grind arith
 
+-- a text that isn't empty and has no line feed is one line, as it stands
 pub only_line : (text : List ℕ) → 0 < length text → position is_feed text ≡ None → lines text ≡ text ∷ lines []
 only_line text some h = rw (whole text (not_found _ _ h)) (one_part text some)

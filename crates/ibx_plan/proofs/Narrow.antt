@@ -18,10 +18,12 @@ pub narrow_field : (field : ℕ) → width_in fields field < 256
 unfolding fields
 narrow_field field = narrow fields field refl
 
+-- the width of each delayed wire fits a byte
 pub narrow_wire : (wire : ℕ) → width_in wires wire < 256
 unfolding wires
 narrow_wire wire = narrow wires wire refl
 
+-- the width of each word that registers and cache rows hand to the core fits a byte
 pub narrow_output : (wire : ℕ) → width_in outputs wire < 256
 unfolding outputs
 narrow_output wire = narrow outputs wire refl

@@ -14,6 +14,7 @@ pub one_line : (bounds : Bounds) (n : ℕ) (plan next : PlanValue) (text line af
 unfolding with_lines
 one_line bounds n plan next text line after cut here = rw (cut, here)
 
+-- a line that is refused ends the reading with its fault, whatever lines come after it
 pub refused : (e : PlanFault) (bounds : Bounds) (n : ℕ) (plan : PlanValue) (text line after : List ℕ)
     → lines text ≡ line ∷ lines after → Fails e (with_line bounds n plan line)
     → Fails e (with_lines bounds n plan (lines text))
@@ -23,10 +24,12 @@ refused fault.NoFlip bounds n plan text line after cut here = rw (cut, here)
 refused (fault.TooMany m) bounds n plan text line after cut here = rw (cut, here)
 refused (fault.Line m k) bounds n plan text line after cut here = rw (cut, here)
 
+-- a text without a byte has no line
 no_rest : (rest : List ℕ) → length rest ≡ 0 → lines rest ≡ []
 no_rest [] h = refl
 no_rest (x ∷ rest) h = absurd (omega arith)
 
+-- behind the last line the plan stays as the lines before have made it
 pub at_end : (bounds : Bounds) (n : ℕ) (plan : PlanValue) (rest : List ℕ) → length rest ≡ 0
     → with_lines bounds n plan (lines rest) ≡ Ok plan
 unfolding with_lines

@@ -32,6 +32,7 @@ module _ (first last x n : ℕ) (some : 1 ≤ n) (one : x % 4 + n ≤ 4) where
       (λ e. let p = and_parts (leb first (x / 4)) (ltb (x / 4) last) e in
       lt-ltb _ _ (omega (arith, leb-true first (x / 4) p.0, ltb-true (x / 4) last p.1)))
 
+  -- a block that has the word has all of these bytes, since they lie within the one word
   block-contains : (leb first (x / 4) && ltb (x / 4) last) ≡ true → has_all block x n ≡ true
   block-contains e =
       let p = and_parts (leb first (x / 4)) (ltb (x / 4) last) e in
@@ -67,6 +68,7 @@ record Whole (cfg below a : ℕ) : Type 0 where
 nothing : (w : ℕ) → false ≡ (leb 0 w && ltb w 0)
 nothing w = sym (rw (le-ltb w 0 (omega arith)) (elim (cases_Bool (leb 0 w)) [ inl e ↦ rw e refl | inr e ↦ rw e refl ]))
 
+-- an entry of four bytes has the one word whose number is its address
 one_word : (w a : ℕ) → eqb w a ≡ (leb a w && ltb w (a + 1))
 one_word w a =
     same_test (eqb w a) (leb a w && ltb w (a + 1))
@@ -75,6 +77,7 @@ one_word w a =
     (λ e. let p = and_parts (leb a w) (ltb w (a + 1)) e in
     eq-eqb w a (omega (arith, leb-true a w p.0, ltb-true w (a + 1) p.1)))
 
+-- a block of 2 ^ (k + 3) bytes ends where its 2 ^ (k + 1) words end
 block_end : (f k : ℕ) → f * 4 + 2 ^ (k + 3) ≡ (f + 2 ^ (k + 1)) * 4
 block_end f k =
     let power : 2 ^ (k + 3) ≡ 2 ^ (k + 1) * 4 = ap (λ (x : ℕ). 2 ^ x) (omega arith) ∙ pow-add 2 (k + 1) 2 in
@@ -120,6 +123,7 @@ covers-meets cfg below a x n some one =
     let e = whole cfg below a in
     ap (λ (b : Bytes). meets b x n) e.bytes ∙ block-meets e.first e.last x n some one ∙ sym (e.word (x / 4))
 
+-- an entry that has the word has each byte within it, so that no access is covered in part
 pub covers-contains : (cfg below a x n : ℕ) → 1 ≤ n → x % 4 + n ≤ 4 → has_word cfg below a (x / 4) ≡ true
     → has_all (covers cfg below a) x n ≡ true
 covers-contains cfg below a x n some one h =

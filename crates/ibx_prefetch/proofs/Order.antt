@@ -18,6 +18,7 @@ awaited_none : (busy : Bool) → awaited busy busy ≡ 0
 awaited_none true = refl
 awaited_none false = refl
 
+-- nor where it is marked to be dropped, whether a request is outstanding or not
 awaited_dropped : (busy : Bool) → awaited busy true ≡ 0
 awaited_dropped true = refl
 awaited_dropped false = refl
@@ -67,6 +68,7 @@ held_one : (words : ℕ → ℕ) (w0 w1 w2 addr pc : ℕ) → w0 ≡ words ((pc 
 held_one words w0 w1 w2 addr pc h zero lt = h
 held_one words w0 w1 w2 addr pc h (suc k) lt = absurd (omega arith)
 
+-- of two held words the younger is that of the address 4 bytes on
 held_two : (words : ℕ → ℕ) (w0 w1 w2 addr pc : ℕ) → w0 ≡ words ((pc / 4 * 4 + 4 * 0) % 2 ^ 32)
     → w1 ≡ words ((pc / 4 * 4 + 4 * 1) % 2 ^ 32) → (k : ℕ) → k < 2
     → held_word (buffer false false false addr w0 w1 w2 2 pc) k ≡ words ((pc / 4 * 4 + 4 * k) % 2 ^ 32)
@@ -74,6 +76,7 @@ held_two words w0 w1 w2 addr pc h h1 zero lt = h
 held_two words w0 w1 w2 addr pc h h1 (suc zero) lt = h1
 held_two words w0 w1 w2 addr pc h h1 (suc (suc k)) lt = absurd (omega arith)
 
+-- with three, the most that are held, the youngest is that of the address 8 bytes on
 held_three : (words : ℕ → ℕ) (w0 w1 w2 addr pc : ℕ) → w0 ≡ words ((pc / 4 * 4 + 4 * 0) % 2 ^ 32)
     → w1 ≡ words ((pc / 4 * 4 + 4 * 1) % 2 ^ 32) → w2 ≡ words ((pc / 4 * 4 + 4 * 2) % 2 ^ 32) → (k : ℕ) → k < 3
     → held_word (buffer false false false addr w0 w1 w2 3 pc) k ≡ words ((pc / 4 * 4 + 4 * k) % 2 ^ 32)
@@ -143,6 +146,7 @@ in_next words addr w0 w1 w2 count pc lt i =
       aligned = omega arith;
     }
 
+-- a request keeps the order, and there is none while one is outstanding or the buffer is full
 in_requested : (words : ℕ → ℕ) (busy fresh drops : Bool) (addr w0 w1 w2 count pc : ℕ)
     → IsInOrder words (buffer busy fresh drops addr w0 w1 w2 count pc)
     → IsInOrder words (requested (request_of (buffer busy fresh drops addr w0 w1 w2 count pc))
@@ -216,6 +220,7 @@ in_popped words n busy fresh drops addr w0 w1 w2 count pc spent most some i = re
   aligned = i.aligned;
 }
 
+-- up to two held parcels can be taken, whether the oldest word goes with them or stays
 in_took : (words : ℕ → ℕ) (n : ℕ) (g : Prefetch) → n ≤ 2 → n ≤ 2 * g.buf_count - g.head_pc / 2 % 2 → IsInOrder words g
     → IsInOrder words (took n g)
 unfolding popped
@@ -273,10 +278,12 @@ none_awaited : (drops busy : Bool) → (drops || false) ≡ true → awaited bus
 none_awaited true busy e = awaited_dropped busy
 none_awaited false busy e = cc
 
+-- an answer that is kept outside of a redirect met no mark
 isnt_dropped : (drops : Bool) → (drops || false) ≡ false → drops ≡ false
 isnt_dropped true e = cc
 isnt_dropped false e = refl
 
+-- in the cycle of a redirect an answer is dropped without a mark, too
 or_true : (b : Bool) → (b || true) ≡ true
 or_true true = refl
 or_true false = refl
@@ -294,6 +301,7 @@ in_filled words ans (Some target) f fits is i =
     (λ valid dropped. awaited_none f.f_busy)
     (λ valid kept. let no_ : true ≡ false = sym (or_true f.f_drop) ∙ kept in cc) (in_turned words (Some target) f i)
 
+-- a cycle of which no more parcels are taken than are offered leaves the words in order
 pub in_order : (words : ℕ → ℕ) (ans : WordAns) (redirect : Option ℕ) (taken : ℕ) (f : Prefetch) → IsWithin f
     → IsInOrder words f → AnswersFor words ans redirect f → taken ≤ 2 → taken ≤ length (offered ans redirect f)
     → IsInOrder words (prefetch_next ans redirect taken f)
@@ -347,6 +355,7 @@ offers words g fits i =
           ∙ ap (λ a. half_of (words a) ((pc / 2 % 2 + 1) % 2)) there ∙ ap (half_of (words (past / 4 * 4))) half;
     }
 
+-- without a redirect, what came in the cycle is shown from the old program counter on
 pub head_offers : (words : ℕ → ℕ) (ans : WordAns) (f : Prefetch) → IsWithin f → IsInOrder words f
     → AnswersFor words ans None f → OffersFrom words f.head_pc (head_of (fetch_after_answer ans None f))
 head_offers words ans f within i is =

@@ -98,6 +98,7 @@ shows_by busy fresh drops addr w0 w1 w2 (suc (suc (suc m))) pc false entry (suc 
 shows_by busy fresh drops addr w0 w1 w2 count pc valid entry b (suc (suc n)) below within = absurd (omega arith)
 shows_by busy fresh drops addr w0 w1 w2 count pc valid entry (suc (suc b)) n below within = absurd (omega arith)
 
+-- without a redirect, half n from the program counter on is ready where an n-th parcel is offered
 shows : (ans : WordAns) (f : Prefetch) (n : ℕ) → n < 2
     → ready_of (held_parcel (received ans.valid (f.f_drop || false) (entry_of ans.err ans.word) f)
     (f.head_pc / 2 % 2 + n)) ≡ slice_get (offered ans None f) n
@@ -105,12 +106,13 @@ shows ans f n within =
     shows_by f.f_busy f.f_fresh f.f_drop f.f_addr f.buf0 f.buf1 f.buf2 f.buf_count f.head_pc ans.valid
     (entry_of ans.err ans.word) (f.head_pc / 2 % 2) n (omega arith) within
 
--- so the head after the answer of a cycle shows the first two parcels that are offered
+-- so without a redirect the program counter is still the same once the answer of the cycle came
 pub filled_pc : (ans : WordAns) (f : Prefetch) → (fetch_after_answer ans None f).head_pc ≡ f.head_pc
 unfolding turned
 filled_pc ans f = received_pc ans.valid (f.f_drop || false) (entry_of ans.err ans.word) f.f_busy f.f_fresh f.f_drop
     f.f_addr f.buf0 f.buf1 f.buf2 f.buf_count f.head_pc
 
+-- the first parcel of the head is the first that is offered, and isn't ready where none is
 pub first_shown : (ans : WordAns) (f : Prefetch)
     → ready_of (head_of (fetch_after_answer ans None f)).first ≡ slice_get (offered ans None f) 0
 unfolding head_of turned
@@ -119,6 +121,7 @@ first_shown ans f =
     let place : f.head_pc / 2 % 2 + 0 ≡ g.head_pc / 2 % 2 = omega (arith, filled_pc ans f) in
     subst (λ h. ready_of (held_parcel g h) ≡ slice_get (offered ans None f) 0) place (shows ans f 0 (omega arith))
 
+-- its second parcel is the one offered next, in the same word or the one after
 pub second_shown : (ans : WordAns) (f : Prefetch)
     → ready_of (head_of (fetch_after_answer ans None f)).second ≡ slice_get (offered ans None f) 1
 unfolding head_of turned
@@ -163,6 +166,7 @@ offered_turn false drops entry busy addr target = drop_none (target / 2 % 2) (om
 offered_turn true true entry busy addr target = drop_none (target / 2 % 2) (omega arith)
 offered_turn true false entry busy addr target = drop_none (target / 2 % 2) (omega arith)
 
+-- a redirect offers none and leaves none, and any other cycle offers all that it holds
 pub offered_is : (ans : WordAns) (redirect : Option ℕ) (f : Prefetch) → f.buf_count ≤ 3
     → offered ans redirect f ≡ parcels_of (fetch_after_answer ans redirect f)
 unfolding turned
@@ -177,6 +181,7 @@ unfolding requested
 requested_parcels None g = refl
 requested_parcels (Some addr) g = refl
 
+-- a word that is requested takes a place in the buffer only once it comes
 pub requested_count : (request : Option ℕ) (g : Prefetch) → (requested request g).buf_count ≡ g.buf_count
 unfolding requested
 requested_count None g = refl
@@ -216,6 +221,7 @@ popped_by busy fresh drops addr w0 w1 w2 (suc (suc (suc (suc m)))) pc b n le lt 
 popped_by busy fresh drops addr w0 w1 w2 count pc (suc (suc b)) n le lt most = absurd (omega arith)
 popped_by busy fresh drops addr w0 w1 w2 count pc b (suc (suc (suc n))) le lt most = absurd (omega arith)
 
+-- once n parcels are taken the queue begins behind them, at the moved program counter
 took_parcels : (n : ℕ) (g : Prefetch) → g.buf_count ≤ 3 → n ≤ 2 → parcels_of (took n g) ≡ drop n (parcels_of g)
 took_parcels n g le most =
     let b = g.head_pc / 2 % 2 in
@@ -237,6 +243,7 @@ received_count true false entry busy fresh drop addr w0 w1 w2 (suc zero) pc le =
 received_count true false entry busy fresh drop addr w0 w1 w2 (suc (suc zero)) pc le = omega arith
 received_count true false entry busy fresh drop addr w0 w1 w2 (suc (suc (suc n))) pc le = le
 
+-- nor are there more after the redirect and the answer of a cycle
 pub filled_count : (ans : WordAns) (redirect : Option ℕ) (f : Prefetch) → f.buf_count ≤ 3
     → (fetch_after_answer ans redirect f).buf_count ≤ 3
 unfolding turned

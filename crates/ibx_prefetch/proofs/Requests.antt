@@ -19,6 +19,7 @@ waiting ans redirect f w = record {
   full = λ e r fresh le. refl;
 }
 
+-- unless an answer is still to come, a redirect requests the target's word in its own cycle
 turning : (ans : WordAns) (target : ℕ) (f : Prefetch) → is_waiting ans f ≡ false
     → Issues ans (Some target) f (Some (target / 4 * 4))
 turning ans target f w = record {
@@ -29,6 +30,7 @@ turning ans target f w = record {
   full = λ e r fresh le. cc;
 }
 
+-- where nothing was requested since the redirect, the program counter's word comes first
 beginning : (ans : WordAns) (f : Prefetch) → is_waiting ans f ≡ false → f.f_fresh ≡ true
     → Issues ans None f (Some (f.head_pc / 4 * 4))
 beginning ans f w is = record {
@@ -39,6 +41,7 @@ beginning ans f w is = record {
   full = λ e r fresh le. cc;
 }
 
+-- with room for a word the one after the last is requested, and address 0 after the highest
 following : (ans : WordAns) (f : Prefetch) → is_waiting ans f ≡ false → f.f_fresh ≡ false → filled ans f < 3
     → Issues ans None f (Some ((f.f_addr / 4 * 4 + 4) % 2 ^ 32))
 following ans f w is room = record {
@@ -49,6 +52,7 @@ following ans f w is room = record {
   full = λ e r fresh le. absurd (omega arith);
 }
 
+-- three words held or coming leave no room, so that nothing is requested
 holding : (ans : WordAns) (f : Prefetch) → is_waiting ans f ≡ false → f.f_fresh ≡ false → 3 ≤ filled ans f
     → Issues ans None f None
 holding ans f w is full = record {
@@ -94,7 +98,7 @@ at_turn false fresh false addr w0 w1 w2 count pc true err word target = turning 
 at_turn true fresh drop addr w0 w1 w2 count pc false err word target = waiting _ (Some target) _ refl
 at_turn false fresh drop addr w0 w1 w2 count pc false err word target = turning _ target _ refl
 
--- a cycle without an answer, and one whose answer is dropped
+-- a cycle without an answer
 silent : (busy fresh drop : Bool) (addr w0 w1 w2 count pc : ℕ) (err : Bool) (word : ℕ)
     → IsIssued (answer false err word) None (buffer busy fresh drop addr w0 w1 w2 count pc)
 unfolding turned received request_of
@@ -157,6 +161,7 @@ issued busy fresh drop addr w0 w1 w2 count pc false err word None =
 issued busy fresh true addr w0 w1 w2 count pc true err word None = dropping busy fresh addr w0 w1 w2 count pc err word
 issued busy fresh false addr w0 w1 w2 count pc true err word None = holds busy fresh addr w0 w1 w2 count pc err word
 
+-- the rule of requests holds in every state, also one that no run reaches
 pub request_issues : (ans : WordAns) (redirect : Option ℕ) (f : Prefetch)
     → Issues ans redirect f (request_of (fetch_after_answer ans redirect f))
 request_issues ans redirect f = issued f.f_busy f.f_fresh f.f_drop f.f_addr f.buf0 f.buf1 f.buf2 f.buf_count f.head_pc

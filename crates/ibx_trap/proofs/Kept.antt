@@ -25,6 +25,7 @@ entered-kept m machine h =
     ∙ set-kept (has_some m mie_bit) (cleared m (mie_bit + mpie_bit + mpp_bits)) mpie_bit refl
     ∙ and_assoc other_bits m (2 ^ 32 - 1 - (mie_bit + mpie_bit + mpp_bits)) ∙ h
 
+-- a return sets MIE, MPIE and MPRV of mstatus at most, which are bits that a write keeps
 pub left-kept : (m : ℕ) (machine : Bool) → bit_and m other_bits ≡ 0 → bit_and (left_mstatus m machine) other_bits ≡ 0
 left-kept m machine h =
     set-kept (machine && has_some m mprv_bit)
@@ -35,15 +36,17 @@ left-kept m machine h =
     ∙ set-kept (has_some m mpie_bit) (cleared m (mie_bit + mpie_bit + mpp_bits + mprv_bit)) mie_bit refl
     ∙ and_assoc other_bits m (2 ^ 32 - 1 - (mie_bit + mpie_bit + mpp_bits + mprv_bit)) ∙ h
 
--- the byte of cpuctrl stays a byte, after an exception and after an interrupt
+-- a byte stays a byte where bits of a byte are set in it
 set-below : (b : Bool) (m bits : ℕ) → m < 2 ^ 8 → bits < 2 ^ 8 → set_if b m bits < 2 ^ 8
 set-below true m bits h small = or_lt 8 m bits h small
 set-below false m bits h small = or_lt 8 m 0 h (omega arith)
 
+-- both marks of an exception lie within the byte of cpuctrl
 pub excepted-below : (m : ℕ) → m < 2 ^ 8 → excepted m < 2 ^ 8
 excepted-below m h = set-below (has_some m sync_exc_seen) (bit_or m sync_exc_seen) double_fault_seen
     (or_lt 8 m sync_exc_seen h (omega arith)) (omega arith)
 
+-- an interrupt leaves cpuctrl as it is, so that its byte stays a byte after either trap
 mark-below : (irq : Bool) (m : ℕ) → m < 2 ^ 8 → (if irq then m else excepted m) < 2 ^ 8
 mark-below true m h = h
 mark-below false m h = excepted-below m h
