@@ -141,7 +141,7 @@ none_comes s log x half q entry f i =
     subst (λ (g : Prefetch). FetchAt s log x half q g)
     (sym (received-none f.f_drop entry f (marks_busy q (length x.enters) f.buf_count f.f_busy f.f_drop i.count))) i
 
--- and no word is outstanding after one that comes
+-- a word that is pushed leaves none outstanding, where none was
 push_busy : (n entry : ℕ) (f : Prefetch) → f.f_busy ≡ false → (pushed n entry f).f_busy ≡ false
 unfolding pushed
 push_busy zero entry f b = b
@@ -149,6 +149,7 @@ push_busy (suc zero) entry f b = b
 push_busy (suc (suc zero)) entry f b = b
 push_busy (suc (suc (suc n))) entry f b = b
 
+-- so no word is outstanding after one that comes, be it kept or dropped
 no_more_busy : (drop : Bool) (entry : ℕ) (f : Prefetch) → (received true drop entry f).f_busy ≡ false
 unfolding received
 no_more_busy true entry f = refl
@@ -195,11 +196,12 @@ received_by s log x half q c f v w p tags lines ans y t r i a (goes no_ at u) =
       }) u;
     })
 
--- a cached request has its walk behind it
+-- the second of two tests that hold together
 and_second : (a b : Bool) → (a && b) ≡ true → b ≡ true
 and_second true b h = h
 and_second false b h = let no_ : false ≡ true = h in cc
 
+-- a cached request has its walk behind it
 walked_of : (ss : List Switch) (fs : List ℕ) (t : ℕ) → is_cached ss fs t ≡ true → is_walked fs t ≡ true
 unfolding is_cached
 walked_of ss fs t h = and_second (enabled_at ss t) (is_walked fs t) h
@@ -282,6 +284,7 @@ goes_walk AsksBare came hit st way entry w = refl
 goes_walk AwaitsBare true hit st way entry w = refl
 goes_walk AwaitsBare false hit st way entry w = refl
 
+-- the cache has 512 tags in each state of a request
 work_tags : (s : Setup) (log : List Write) (ss : List Switch) (fs : List ℕ) (y : Past) (t a c e : ℕ) (w : WordPort)
     (p : PortState) (tags lines : List ℕ) → Work s log ss fs y t a c e w p tags lines → length tags ≡ 512
 work_tags s log ss fs y t a c e w p tags lines (bare_asks b d i k) = k.tag_count
@@ -293,6 +296,7 @@ work_tags s log ss fs y t a c e w p tags lines (second_asks b m d e0 i k) = k.ta
 work_tags s log ss fs y t a c e w p tags lines (second_waits b m d e0 i k) = k.tag_count
 work_tags s log ss fs y t a c e w p tags lines (last b m d e0 e1 now i k) = k.tag_count
 
+-- the cache has 512 tags, with a word outstanding or none
 link_tags : (s : Setup) (log : List Write) (x : Stream) (q c e : ℕ) (busy : Bool) (w : WordPort) (p : PortState)
     (tags lines : List ℕ) → Link s log x q c e busy w p tags lines → length tags ≡ 512
 link_tags s log x q c e busy w p tags lines (idle b g i k late) = k.tag_count

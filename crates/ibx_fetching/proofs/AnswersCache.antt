@@ -27,6 +27,7 @@ use Rattle.ibx_fetching.proofs.PortsLogs.{IsStored, old_fill}
 code_quiet : (width check word : ℕ) → IsCode width check word → syndrome_of width check word ≡ 0
 code_quiet width check word k = ap (syndrome_of width check) k.is_code ∙ syndrome_of-encode width check k.payload k.low
 
+-- the codeword of the empty tag, as the walk writes it
 pub empty_tag : encode_of 22 6 0 ≡ 0xa800000
 unfolding encode_of checks column columns numbers_of_weight weight
 empty_tag = refl
@@ -56,11 +57,12 @@ line_match l a low small e =
           ∙ sym (ap (λ b. b && true) (ne_eqb l (a / 8) ne))
     ]
 
--- so a tag matches just where the line is in its way, and never an empty one
+-- an empty tag matches no address
 none_match : (a : ℕ) → matches (encode_of 22 6 0) a ≡ false
 none_match a = ap (λ v. v == 2 ^ 21 + a / 2 ^ 11) (payload_of-encode 22 6 0 (omega arith))
     ∙ ne_eqb 0 (2 ^ 21 + a / 2 ^ 11) (λ z. absurd (omega (arith, z)))
 
+-- so a tag matches just where the last fill of its slot holds the address's line
 match_by : (s : Setup) (fs : List ℕ) (t a e n : ℕ) (b : Bool) (o : Option Fill) → a < 2 ^ 32
     → n ≡ slot_of (line_of a) b → ((x : Fill) → o ≡ Some x → IsStored s e n x)
     → matches (encode_of 22 6 (tag_of fs (t + 1) o)) a ≡ holds_line fs t (line_of a) o
@@ -75,10 +77,11 @@ match_by s fs t a e n b (Some x) low at k = by (none_between fs x.time (t + 1))
         ∙ line_match x.line a low i.line (slot_set x.line (line_of a) x.way b (i.slot_is ∙ at))
     by false = none_match a ∙ sym (and_no (x.line == line_of a))
 
--- a tag is empty just where no line stands
+-- the codeword of 0 is an empty tag
 none_empty : is_empty (encode_of 22 6 0) ≡ true
 none_empty = ap (λ v. v / 2 ^ 21 == 0) (payload_of-encode 22 6 0 (omega arith))
 
+-- so a tag is empty just where no line stands in its slot
 empty_by : (s : Setup) (fs : List ℕ) (t e n : ℕ) (o : Option Fill) → ((x : Fill) → o ≡ Some x → IsStored s e n x)
     → is_empty (encode_of 22 6 (tag_of fs (t + 1) o)) ≡ not (stands fs t o)
 empty_by s fs t e n None k = none_empty
@@ -109,11 +112,12 @@ pub slot_low : (line : ℕ) (b : Bool) → slot_of line b < 512
 slot_low line true = omega arith
 slot_low line false = omega arith
 
--- a line that is found in a place is that line
+-- the first of two tests that hold together
 and_first : (a b : Bool) → (a && b) ≡ true → a ≡ true
 and_first true b h = refl
 and_first false b h = h
 
+-- a line that is found in a place is that line
 line_there : (fs : List ℕ) (t line : ℕ) (x : Fill) → holds_line fs t line (Some x) ≡ true → x.line ≡ line
 line_there fs t line x h = eqb-true x.line line (and_first (x.line == line) (none_between fs x.time (t + 1)) h)
 
@@ -125,6 +129,7 @@ mapped_by s a line true at e m0 m1 k =
 mapped_by s a line false at e m0 m1 k =
     let up : a / 4 % 2 ≢ 1 = eqb-false (a / 4 % 2) 1 k in ap (is_unmapped s) (omega (arith, e, up, at)) ∙ m0
 
+-- the cache's word at the address is the one that memory had in that word's own grant
 data_by : (s : Setup) (log : List Write) (lines : List ℕ) (a n : ℕ) (x : Fill) (u : Bool) → IsPlaced s → a % 4 ≡ 0
     → x.line ≡ a / 8 → slice_index lines (2 * n) ≡ encode_of 32 7 (word_in s log x.grant0 (8 * x.line))
     → slice_index lines (2 * n + 1) ≡ encode_of 32 7 (word_in s log x.grant1 (8 * x.line + 4)) → (a / 4 % 2 == 1) ≡ u
@@ -148,6 +153,7 @@ module _ (s : Setup) (log : List Write) (fs : List ℕ) (fills : List Fill) (t c
   found_there : (n : ℕ) (x : Fill) → last_fill fills n ≡ Some x → IsStored s e n x
   found_there n x k = old_fill s fills e n x h.old h.mapped k
 
+  -- the word of a line that is found is memory's, in the grant that its fill notes for it
   word_there : (b : Bool) (o : Option Fill) → last_fill fills (slot_of (line_of a) b) ≡ o
       → holds_line fs t (line_of a) o ≡ true
       → payload_of 32 (slice_index lines (slot_of (line_of a) b * 2 + a / 4 % 2)) ≡ word_in s log (fill_grant o a) a
@@ -158,6 +164,7 @@ module _ (s : Setup) (log : List Write) (fs : List ℕ) (fills : List Fill) (t c
       (h.word0 (slot_of (line_of a) b) x (slot_low (line_of a) b) k)
       (h.word1 (slot_of (line_of a) b) x (slot_low (line_of a) b) k) refl
 
+  -- memory answers for the address of a line that is found
   mapped_there : (b : Bool) (o : Option Fill) → last_fill fills (slot_of (line_of a) b) ≡ o
       → holds_line fs t (line_of a) o ≡ true → is_unmapped s a ≡ false
   mapped_there b None k there = let no_ : false ≡ true = there in cc
@@ -205,6 +212,7 @@ pub record Seen (s : Setup) (log : List Write) (fs : List ℕ) (fills : List Fil
 good0 : (l : Look) (a : ℕ) → syndrome_of 22 6 l.tag0 ≡ 0 → syndrome_of 32 7 l.data0 ≡ 0 → is_bad0 l a ≡ false
 good0 l a x y = ap₂ (λ m n. not (m == 0) || (matches l.tag0 a && not (n == 0))) x y ∙ and_no (matches l.tag0 a)
 
+-- the second way isn't bad either, where its tag and its word are codewords
 good1 : (l : Look) (a : ℕ) → syndrome_of 22 6 l.tag1 ≡ 0 → syndrome_of 32 7 l.data1 ≡ 0 → is_bad1 l a ≡ false
 good1 l a x y = ap₂ (λ m n. not (m == 0) || (not (matches l.tag0 a) && matches l.tag1 a && not (n == 0))) x y
     ∙ by (not (matches l.tag0 a)) (matches l.tag1 a)
@@ -219,6 +227,7 @@ and_yes : (b : Bool) → (b && true) ≡ b
 and_yes true = refl
 and_yes false = refl
 
+-- of two tests one holds, and it isn't the first
 or_last : (u v : Bool) → (u || v) ≡ true → u ≡ false → v ≡ true
 or_last true v h e = let no_ : true ≡ false = e in cc
 or_last false v h e = h
@@ -233,6 +242,7 @@ module _ (s : Setup) (log : List Write) (fs : List ℕ) (fills : List Fill) (t a
       (good1 l a w1.code w1.data_code)
       ∙ and_yes (matches l.tag0 a || matches l.tag1 a) ∙ ap₂ (λ m n. m || n) w0.match w1.match
 
+  -- the victim of a lookup is the one that the stored lines say
   both_way : victim_of l a alt ≡ victim_by (not (stands fs t (last_fill fills (slot_of (line_of a) false))))
       (not (stands fs t (last_fill fills (slot_of (line_of a) true)))) alt
   unfolding victim_of
@@ -258,18 +268,21 @@ module _ (s : Setup) (log : List Write) (fs : List ℕ) (fills : List Fill) (t a
   word_by false e there =
       w1.word (or_last (in_way fs fills (line_of a) t false) (in_way fs fills (line_of a) t true) there e)
 
+  -- so a hit finds the word that memory had in the grant of its fill
   both_word : is_present fs fills (line_of a) t ≡ true
       → found_word l a ≡ word_in s log (fill_grant (last_fill fills (found_slot fs fills (line_of a) t)) a) a
   unfolding is_present found_word found_slot
   both_word there = ap (λ m. payload_of 32 (if m then l.data0 else l.data1)) w0.match
       ∙ word_by (in_way fs fills (line_of a) t false) refl there
 
+  -- memory answers for the address, in whichever way its line is
   map_by : (u : Bool) → in_way fs fills (line_of a) t false ≡ u
       → (in_way fs fills (line_of a) t false || in_way fs fills (line_of a) t true) ≡ true → is_unmapped s a ≡ false
   map_by true e there = w0.mapped e
   map_by false e there =
       w1.mapped (or_last (in_way fs fills (line_of a) t false) (in_way fs fills (line_of a) t true) there e)
 
+  -- so memory answers for the address of each hit
   both_mapped : is_present fs fills (line_of a) t ≡ true → is_unmapped s a ≡ false
   unfolding is_present
   both_mapped there = map_by (in_way fs fills (line_of a) t false) refl there

@@ -49,6 +49,7 @@ entry_low : (u : Bool) (v : ℕ) → v < 2 ^ 32 → entry_of u v % 2 ^ 32 ≡ v
 entry_low true v low = omega (arith, low)
 entry_low false v low = omega (arith, low)
 
+-- an entry that is taken apart as error and word comes back from these
 entry_back : (e v : ℕ) (u : Bool) → v < 2 ^ 32 → e ≡ entry_of u v
     → entry_of (not (e / 2 ^ 32 == 0)) (e % 2 ^ 32) ≡ entry_of u v
 entry_back e v u low at =
@@ -73,9 +74,11 @@ wires_if : (p : PortState) → answer_wires p ≡ rsp_if (answers p) p.err p.wor
 unfolding answer_wires
 wires_if p = refl
 
+-- the port's answer is this one, where it is known whether it answers
 wires_by : (p : PortState) (b : Bool) → answers p ≡ b → answer_wires p ≡ rsp_if b p.err p.word
 wires_by p b e = wires_if p ∙ ap (λ v. rsp_if v p.err p.word) e
 
+-- a port that doesn't answer shows no valid answer
 silent : (p : PortState) → answers p ≡ false → (answer_wires p).valid ≡ false
 silent p e = ap (λ (r : Rsp). r.valid) (wires_by p false e)
 
@@ -123,6 +126,7 @@ bare_past : (k : Settings) (ss : List Switch) (fs : List ℕ) (y : Past) (t a : 
 unfolding request_by
 bare_past k ss fs y t a e = rw e refl
 
+-- a hit answers in the next cycle, and leaves the transactions and the fills as they were
 hit_past : (k : Settings) (ss : List Switch) (fs : List ℕ) (y : Past) (t a : ℕ) → is_cached ss fs t ≡ true
     → is_present fs y.fills (line_of a) t ≡ true
     → after_request k ss fs y t a ≡ record {
@@ -134,6 +138,7 @@ hit_past : (k : Settings) (ss : List Switch) (fs : List ℕ) (y : Past) (t a : �
 unfolding request_by
 hit_past k ss fs y t a e h = rw (e, h) refl
 
+-- a miss leaves two transactions more, and its line where it is kept, and answers after both
 miss_past : (k : Settings) (ss : List Switch) (fs : List ℕ) (y : Past) (t a : ℕ) → is_cached ss fs t ≡ true
     → is_present fs y.fills (line_of a) t ≡ false → after_request k ss fs y t a ≡ record {
       answer = second_answer k y t + 1;
@@ -186,6 +191,7 @@ looks_by false false false false false false true h k = absurd cc
 looks_by false false false false false false false true k = absurd cc
 looks_by false false false false false false false false k = absurd cc
 
+-- a port that looks up reads the cache at the address of its request
 looked_is : (w : WordPort) → doing_of w.c_state ≡ Looks → looked w ≡ w.c_addr
 unfolding doing_of
 looked_is w e = ap (λ b. if b then w.c_addr else 0)
@@ -292,6 +298,7 @@ module _ (s : Setup) (log : List Write) (ss : List Switch) (fs : List ℕ) (y : 
         (encode_of 32 7 (payload_of 32 rsp.word))
         (nat_lt w.c_walk 256) k
 
+    -- at work, a request's mark is the port's own, or that of a FENCE.I in this cycle
     unmarked : (g : Doing) (n : Bool) → doing_of w.c_state ≡ g → is_rest g ≡ false → (marked fence w).c_nostore ≡ n
         → (w.c_nostore || fence) ≡ n
     unmarked g n e r h = ap (λ b. not b && (w.c_nostore || fence)) (sym r)
@@ -374,6 +381,7 @@ module _ (s : Setup) (log : List Write) (ss : List Switch) (fs : List ℕ) (y : 
         (put_lines (filling_if b true w.c_walk (place_of z w.c_way) (encode_of 22 6 (2 ^ 21 + z / 2 ^ 11))
         (encode_of 32 7 d0) (encode_of 32 7 d1)) lines)
 
+    -- the opposite of a test that holds fails
     not_false : (b : Bool) → b ≡ true → not b ≡ false
     not_false b e = ap not e
 
@@ -414,6 +422,7 @@ module _ (s : Setup) (log : List Write) (ss : List Switch) (fs : List ℕ) (y : 
         CacheAt s log fs (stored_if v (fill_of (settings_of s) y t a (victim fs y.fills (line_of a) t)) y.fills) c
         (c + 1) w.c_walk (if u then not w.c_way else w.c_alt) (put_tags (filling u) tags) (put_lines (filling u) lines)
 
+    -- the second answer stores the line where the history keeps it, and else leaves the cache
     completes : w.c_way ≡ victim fs y.fills (line_of a) t → w.c_word0 ≡ entry0 s log y t a
         → payload_of 32 rsp.word ≡ word_in s log (second_grant (settings_of s) y t) (line_base a + 4)
         → second_answer (settings_of s) y t ≡ c → is_cached ss fs t ≡ true

@@ -82,6 +82,7 @@ kept s log fs fills c e walk alt tags lines slot tag word0 word1 true h =
     clears s log fs fills c e walk alt tags lines h
 kept s log fs fills c e walk alt tags lines slot tag word0 word1 false h = h
 
+-- so a walk that goes on has its set's tags cleared after each cycle
 pub cleared_by : (walk slot tag word0 word1 : ℕ) (tags : List ℕ) (b u : Bool) → nat_lt walk 256 ≡ b → length tags ≡ 512
     → Cleared walk (put_tags (filling_if b u walk slot tag word0 word1) tags)
 cleared_by walk slot tag word0 word1 tags true u e k = cleared walk tags k
@@ -95,10 +96,12 @@ cleared_by walk slot tag word0 word1 tags false u e k =
 some_fill : (a b : Fill) → Some a ≡ Some b → a ≡ b
 some_fill a b e = cc
 
+-- the slot of a line in a way is the place where the port writes it
 slot_is : (a : ℕ) (way : Bool) → slot_of (line_of a) way ≡ place_of a way
 slot_is a true = omega arith
 slot_is a false = omega arith
 
+-- each place is one of the 512 tags
 place_low : (a : ℕ) (way : Bool) → place_of a way < 512
 place_low a true = omega arith
 place_low a false = omega arith
@@ -135,6 +138,7 @@ module _ (s : Setup) (log : List Write) (fs : List ℕ) (fills : List Fill) (c w
   unfolding last_fill
   last_here n at = rw (eq-eqb (slot_of (line_of a) way) n (slot_is a way ∙ sym at)) refl
 
+  -- every other slot keeps its last fill
   last_other : (n : ℕ) → n ≢ slot → last_fill (new ∷ fills) n ≡ last_fill fills n
   unfolding last_fill
   last_other n ne = rw (ne_eqb (slot_of (line_of a) way) n (λ z. ne (sym z ∙ slot_is a way))) refl
@@ -143,6 +147,7 @@ module _ (s : Setup) (log : List Write) (fs : List ℕ) (fills : List Fill) (c w
   new_tag : tag_of fs c (Some new) ≡ 2 ^ 21 + a / 2 ^ 11
   new_tag = ap (λ b. if b then 2 ^ 21 + line_of a / 256 else 0) (between_none fs c) ∙ omega arith
 
+  -- so each tag is that of its slot's last fill, the new line's with them
   tags_are : (n : ℕ) → n < 512 → slice_index tags2 n ≡ encode_of 22 6 (tag_of fs c (last_fill (new ∷ fills) n))
   tags_are n below =
       elim (cases_eq n slot) [
@@ -174,6 +179,7 @@ module _ (s : Setup) (log : List Write) (fs : List ℕ) (fills : List Fill) (c w
             ∙ h.word0 n x below (sym (last_other n ne) ∙ e)
       ]
 
+  -- the second word of every line is that of its fill
   second_are : (n : ℕ) (x : Fill) → n < 512 → last_fill (new ∷ fills) n ≡ Some x
       → slice_index lines2 (2 * n + 1) ≡ encode_of 32 7 (word_in s log x.grant1 (8 * x.line + 4))
   second_are n x below e =

@@ -46,6 +46,7 @@ memory_ram memory (w ∷ ws) c =
       | false ↦ memory_ram memory ws c
     ]
 
+-- memory has the range of the image's RAM at any time
 image_ram : (s : Setup) (ws : List Write) (c : ℕ) → (memory_at (image_memory s.image) ws c).ram ≡ s.image.ram
 unfolding image_memory
 image_ram s ws c = memory_ram (image_memory s.image) ws c
@@ -137,6 +138,7 @@ walks_on s log fs fills c walk alt tags lines l most k h false e =
       alt_is = h.alt_is;
     }
 
+-- after a FENCE.I in this cycle no line stands, and the walk begins at the first set
 walks_fenced : (s : Setup) (log : List Write) (old : List ℕ) (fills : List Fill) (c walk : ℕ) (alt : Bool)
     (tags lines : List ℕ)
     → CacheAt s log (c ∷ old) fills c (c + 1) walk alt tags lines
@@ -156,6 +158,7 @@ walks_fenced s log old fills c walk alt tags lines h =
       alt_is = h.alt_is;
     }
 
+-- so the cache goes on to the next cycle, with a FENCE.I in this one or without
 cache_walks : (s : Setup) (log : List Write) (fs : List ℕ) (fills : List Fill) (c walk : ℕ) (fence alt : Bool)
     (tags lines : List ℕ)
     → WalkMid fs c fence walk → Cleared walk tags → CacheAt s log fs fills c (c + 1) walk alt tags lines
@@ -179,6 +182,7 @@ walk_by fs c walk l e false k =
     let low = starts_before fs c l in
     let more = ltb-false walk 256 k in record { log = log_more fs c (c + 1) (omega arith) l; walk_is = omega arith }
 
+-- the walk of the next cycle goes on, or begins anew after a FENCE.I in this one
 walk_next : (fs : List ℕ) (c walk : ℕ) (fence : Bool) → WalkMid fs c fence walk → WalkAt fs (c + 1) (walked fence walk)
 walk_next fs c walk fence (walks f a) =
     subst (λ b. WalkAt fs (c + 1) (walked b walk)) (sym f) (walk_by fs c walk a.log a.walk_is (nat_lt walk 256) refl)

@@ -36,6 +36,7 @@ test_by s log x half q c i enable f w p tags lines v small false e =
           (ltb-false i f.buf_count e) small,
     )))
 
+-- so the buffer's count tells which of the next three words have answered by this cycle
 pub test_is : (s : Setup) (log : List Write) (x : Stream) (half q c i : ℕ) (enable : Bool) (f : Prefetch)
     (w : WordPort) (p : PortState) (tags lines : List ℕ) → WordsAt s log x half q (c + 1) enable f w p tags lines
     → i < 3 → nat_lt i f.buf_count ≡ nat_le (answer (settings_of s) x (length x.enters + i)) c
@@ -84,9 +85,11 @@ shows_at s log x half q c i r addr enable f w p tags lines ok v small low at =
 head_half : (pc n half : ℕ) → pc ≡ (4 * n + 2 * half) % 2 ^ 32 → half < 2 → pc / 2 % 2 ≡ half
 head_half pc n half e h = omega arith
 
+-- the first parcel is in the word behind those taken, in the half where the program counter is
 first_addr : (b m half : ℕ) → half < 2 → (4 * (b + m) + 2 * half) % 2 ^ 32 ≡ 4 * ((b + (m + 0)) % 2 ^ 30) + 2 * half
 first_addr b m half h = omega arith
 
+-- the second parcel is in the same word behind a lower half, and in the next behind an upper one
 second_addr : (b m half : ℕ) → half < 2
     → ((4 * (b + m) + 2 * half) % 2 ^ 32 + 2) % 2 ^ 32 ≡ 4 * ((b + (m + half)) % 2 ^ 30) + 2 * ((half + 1) % 2)
 second_addr b m zero h = omega arith

@@ -29,6 +29,7 @@ same_le a x y e h =
       | inr more ↦ le-leb a x more ∙ sym (le-leb a y (omega arith))
     ]
 
+-- both are below a word's address, or neither is
 same_lt : (a x y : ℕ) → a % 4 ≡ 0 → x / 4 ≡ y / 4 → nat_lt x a ≡ nat_lt y a
 same_lt a x y e h =
     elim (cases_lt x a) [
@@ -36,10 +37,12 @@ same_lt a x y e h =
       | inr more ↦ le-ltb x a more ∙ sym (le-ltb y a (omega arith))
     ]
 
+-- so RAM has both bytes of a word, or neither
 same_ram : (ram : Ram) (x y : ℕ) → IsRamRange ram → x / 4 ≡ y / 4 → ram_has ram x ≡ ram_has ram y
 same_ram ram x y ok h = ap₂ (λ a b. a && b) (same_le ram.base x y (omega (arith, ok.base_in_steps)) h)
     (same_lt (ram.base + ram.size) x y (omega (arith, ok.base_in_steps, ok.size_in_steps)) h)
 
+-- the host's page has both bytes of a word, or neither
 same_page : (x y : ℕ) → x / 4 ≡ y / 4 → host_page_has x ≡ host_page_has y
 same_page x y h = ap₂ (λ a b. a && b) (same_le 0x20000 x y refl h) (same_lt 0x21000 x y refl h)
 
@@ -54,6 +57,7 @@ four_is : (f : ℕ → ℕ) → bytes_number f 4 ≡ f 0 + f 1 * 256 + f 2 * 655
 unfolding bytes_number
 four_is f = omega arith
 
+-- a halfword is its lower byte and 256 times its upper one
 two_is : (f : ℕ → ℕ) → bytes_number f 2 ≡ f 0 + f 1 * 256
 unfolding bytes_number
 two_is f = omega arith
@@ -63,6 +67,7 @@ low_half : (e b0 b1 b2 b3 : ℕ) → b0 < 256 → b1 < 256
     → (b0 + b1 * 256 + b2 * 65536 + b3 * 16777216 + (e * 4294967296)) / 1 % 65536 ≡ b0 + b1 * 256
 low_half e b0 b1 b2 b3 h0 h1 = omega arith
 
+-- the upper half of a word is that of its upper two bytes, whatever the error
 high_half : (e b0 b1 b2 b3 : ℕ) → b0 < 256 → b1 < 256 → b2 < 256 → b3 < 256
     → (b0 + b1 * 256 + b2 * 65536 + b3 * 16777216 + (e * 4294967296)) / 65536 % 65536 ≡ b2 + b3 * 256
 high_half e b0 b1 b2 b3 h0 h1 h2 h3 = omega arith
@@ -72,6 +77,7 @@ byte_low : (memory : Memory) (a : ℕ) → ((b : ℕ) → memory.byte b < 256) �
 byte_low memory a h =
     elim (ram_has memory.ram a) as (λ b. (if b then memory.byte a else 0) < 256) [ true ↦ h a | false ↦ omega arith ]
 
+-- the error above a word is a multiple of 2 ^ 32
 error_bit : (u : Bool) → (e : ℕ) × ((if u then 2 ^ 32 else 0) ≡ e * 4294967296)
 error_bit true = (1, refl)
 error_bit false = (0, refl)

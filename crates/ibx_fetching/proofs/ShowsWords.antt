@@ -25,11 +25,13 @@ bare_answer : (k : Settings) (ss : List Switch) (fs : List ℕ) (y : Past) (t a 
 unfolding request_by
 bare_answer k ss fs y t a e = rw e refl
 
+-- a hit answers in the cycle after its request
 hit_answer : (k : Settings) (ss : List Switch) (fs : List ℕ) (y : Past) (t a : ℕ) → is_cached ss fs t ≡ true
     → is_present fs y.fills (line_of a) t ≡ true → (after_request k ss fs y t a).answer ≡ t + 1
 unfolding request_by
 hit_answer k ss fs y t a e h = rw (e, h) refl
 
+-- a miss answers in the cycle after that of its line's second word
 miss_answer : (k : Settings) (ss : List Switch) (fs : List ℕ) (y : Past) (t a : ℕ) → is_cached ss fs t ≡ true
     → is_present fs y.fills (line_of a) t ≡ false → (after_request k ss fs y t a).answer ≡ second_answer k y t + 1
 unfolding request_by
@@ -64,6 +66,7 @@ work_late s log ss fs y t a c e w p tags lines (second_waits b m g e0 i h) =
 work_late s log ss fs y t a c e w p tags lines (last b m g e0 e1 now i h) =
     omega (arith, miss_answer (settings_of s) ss fs y t a b m)
 
+-- so a word that is outstanding answers in this cycle or later
 pub link_late : (s : Setup) (log : List Write) (x : Stream) (q c e : ℕ) (busy : Bool) (w : WordPort) (p : PortState)
     (tags lines : List ℕ) → busy ≡ true → Link s log x q c e busy w p tags lines
     → c ≤ (past (settings_of s) x q).answer
@@ -122,6 +125,7 @@ there s log x half q c i enable f w p tags lines v (coming b d n) h =
     )
 there s log x half q c i enable f w p tags lines v (dropped b d z nothing none) h = absurd (omega arith)
 
+-- a word behind those in the buffer hasn't answered before this cycle
 pub not_there : (s : Setup) (log : List Write) (x : Stream) (half q c i : ℕ) (enable : Bool) (f : Prefetch)
     (w : WordPort) (p : PortState) (tags lines : List ℕ) → WordsAt s log x half q c enable f w p tags lines
     → Count q (length x.enters) f.f_busy f.f_drop f.buf_count → f.buf_count ≤ i → i < 3

@@ -31,6 +31,7 @@ origin_more k x e zero y t h o = tt
 origin_more k x e (suc j) y t h o =
     (o.0 ∙ sym (past_more k x e j (omega arith)), o.1 ∙ sym (issue_more k x e j (omega arith)))
 
+-- the last word request stands in the stream with the enter as in the one without
 link_more : (s : Setup) (log : List Write) (x : Stream) (e q d : ℕ) (busy : Bool) (w : WordPort) (p : PortState)
     (tags lines : List ℕ) → q ≤ length x.enters + 3
     → Link s log x q d d busy w p tags lines → Link s log (with_enter x e) q d d busy w p tags lines
@@ -54,6 +55,7 @@ link_more s log x e q d busy w p tags lines h (pending y t a work) =
       low = subst (λ n. n < 2 ^ 32) (sym (last_more x e q)) a.low;
     }) (subst (λ n. Work s log x.switches x.fences y t n d d w p tags lines) (sym (last_more x e q)) work)
 
+-- a word that was read is the same in the stream with the enter
 entry_more : (s : Setup) (log : List Write) (x : Stream) (e j : ℕ) → suc j ≤ length x.enters + 3
     → word_entry s log x j ≡ word_entry s log (with_enter x e) j
 entry_more s log x e j h =
@@ -68,6 +70,7 @@ count_less q m busy drop count some (rest b d n) = rest b d (omega arith)
 count_less q m busy drop count some (coming b d n) = coming b d (omega arith)
 count_less q m busy drop count some (dropped b d z nothing none) = absurd (omega arith)
 
+-- the buffer holds three words at most
 count_most : (q m : ℕ) (busy drop : Bool) (count : ℕ) → q ≤ m + 3 → Count q m busy drop count → count ≤ 3
 count_most q m busy drop count h (rest b d n) = omega arith
 count_most q m busy drop count h (coming b d n) = omega arith
@@ -100,6 +103,7 @@ pc_still : (base m half n pc : ℕ) → pc ≡ (4 * (base + m) + 2 * half) % 2 ^
     → (pc + 2 * n) % 2 ^ 32 ≡ (4 * (base + m) + 2 * ((half + n) % 2)) % 2 ^ 32
 pc_still base m half n pc e h = omega arith
 
+-- where the parcels end a word the program counter moves into the next one
 pc_next : (base m half n pc : ℕ) → pc ≡ (4 * (base + m) + 2 * half) % 2 ^ 32 → half < 2 → n ≤ 2 → 2 ≤ half + n
     → (pc + 2 * n) % 2 ^ 32 ≡ (4 * (base + (m + 1)) + 2 * ((half + n) % 2)) % 2 ^ 32
 pc_next base m half n pc e low few h = omega arith
@@ -182,16 +186,18 @@ words_by s log x half n q c enable f w p tags lines v few true e some =
 
 -- ---- the words have answered
 
--- the first word of an instruction has answered, and so one is held
+-- the first of two tests that hold together
 and_left : (a b : Bool) → (a && b) ≡ true → a ≡ true
 and_left true b h = refl
 and_left false b h = h
 
+-- where the parcels have answered, so has the word that holds the first of them
 first_there : (k : Settings) (y : Times) (n c : ℕ) → has_answered k y n c ≡ true
     → answer k y.stream (length y.stream.enters) ≤ c
 unfolding has_answered
 first_there k y n c h = leb-true (answer k y.stream (length y.stream.enters)) c (and_left _ _ h)
 
+-- so the buffer holds a word, the oldest not yet taken
 holds_some : (s : Setup) (log : List Write) (x : Stream) (half q c : ℕ) (enable : Bool) (f : Prefetch) (w : WordPort)
     (p : PortState) (tags lines : List ℕ) → WordsAt s log x half q (c + 1) enable f w p tags lines
     → answer (settings_of s) x (length x.enters) ≤ c → 0 < f.buf_count

@@ -54,6 +54,7 @@ entry_same s log new d g a same h = ap (entry_of (is_unmapped s a)) (same g a h)
 some_fill : (a b : Fill) → Some a ≡ Some b → a ≡ b
 some_fill a b e = cc
 
+-- a place without a line has none to speak of
 none_fill : (x : Fill) {P : Type 0} → None ≡ Some x → P
 none_fill x e = cc
 
@@ -115,6 +116,7 @@ reads_logs s log new ws m x g a d err p same at r =
       word_is = r.word_is ∙ ap (encode_of 32 7) (same g a (omega (arith, r.past)));
     }
 
+-- so an outstanding request is at work in the log with the later writes too
 work_logs : (s : Setup) (log new : List Write) (ss : List Switch) (fs : List ℕ) (y : Past) (t a d : ℕ) (w : WordPort)
     (p : PortState) (tags lines : List ℕ) → IsSame s log new d → Work s log ss fs y t a d d w p tags lines
     → Work s new ss fs y t a d d w p tags lines
@@ -150,6 +152,7 @@ work_logs s log new ss fs y t a d w p tags lines same (last b m g e0 e1 now i h)
     (e1 ∙ entry_same s log new d (second_grant (settings_of s) y t) (line_base a + 4) same (omega arith)) now i
     (cache_logs s log new fs (filled (settings_of s) fs y t a) d d w.c_walk w.c_alt tags lines same h)
 
+-- so the last word request stands as before, outstanding or not, whatever is written later
 link_logs : (s : Setup) (log new : List Write) (x : Stream) (q d : ℕ) (busy : Bool) (w : WordPort) (p : PortState)
     (tags lines : List ℕ) → IsSame s log new d → Link s log x q d d busy w p tags lines
     → Link s new x q d d busy w p tags lines

@@ -61,9 +61,11 @@ some_portion false false c = refl
 some_portion false true true = refl
 some_portion false true false = refl
 
+-- a first portion that no memory answers is the last one
 first_bad : (b c : Bool) → portions_by false true b c ≡ OneBad
 first_bad b c = refl
 
+-- an access that reaches its second portion has two, and memory answers the first
 second_by : (a b c : Bool) → reaches (portions_by false a b c) true ≡ true
     → portions_by false a b c ≡ portions_by false false true c
 second_by true b c e = let no_ : false ≡ true = e in cc
@@ -76,6 +78,7 @@ second_has true b c e = let no_ : false ≡ true = e in cc
 second_has false false c e = let no_ : false ≡ true = e in cc
 second_has false true c e = refl
 
+-- with memory for the first portion, an access of two reaches the second
 second_reached : (c : Bool) → reaches (portions_by false false true c) true ≡ true
 second_reached true = refl
 second_reached false = refl
@@ -99,20 +102,24 @@ unfolding done_by
 ends_at_portion ws n e stop false = refl
 ends_at_portion ws n e stop true = refl
 
+-- a good end has made the transactions up to that of the last portion
 ends_made : (n : ℕ) (b : Bool) → made_by (portions_by false false b false) n ≡ suc (portion_number n b)
 unfolding made_by
 ends_made n false = refl
 ends_made n true = refl
 
+-- an end in an error has made the transactions up to that of the bad portion
 fails_made : (n : ℕ) (b : Bool) → made_by (fails b) n ≡ suc (portion_number n b)
 unfolding made_by
 fails_made n false = refl
 fails_made n true = refl
 
+-- an error's trap is found in the phase of the bad portion
 fails_phase : (b : Bool) → portions_phase (fails b) ≡ portion_code b + 1
 fails_phase false = refl
 fails_phase true = refl
 
+-- a good end finds no trap
 ends_phase : (b : Bool) → portions_phase (portions_by false false b false) ≡ 0
 ends_phase false = refl
 ends_phase true = refl
@@ -131,6 +138,7 @@ written_before OneBad true x y ws c b f g = (f, b)
 written_before Two true x y ws c b f g = (g refl, (f, b))
 written_before TwoBad true x y ws c b f g = (g refl, (f, b))
 
+-- the transactions of an access are granted before a cycle where each portion that it reaches is
 sent_before : (portions : Portions) (x y : Transaction) (ts : List Transaction) (c : ℕ) → AreGranted ts c → x.grant < c
     → (reaches portions true ≡ true → y.grant < c) → AreGranted (sent_by portions x y ts) c
 unfolding sent_by
@@ -144,6 +152,7 @@ sent_before TwoBad x y ts c b f g = (g refl, (f, b))
 abbrev grant_at : Setup → ℕ → Story → Bool → ℕ
 grant_at s t h b = portion_grant s.plan.dwaits h.times.made (t + 1) b
 
+-- the writes of the story with the item are before a cycle where its portions are granted before it
 writes_before : (s : Setup) (t : ℕ) (h : Story) (c : ℕ) (w : Access) → access_at s t h ≡ Some w → IsBefore h.writes c
     → grant_at s t h false < c → (reaches (item_at s t h).portions true ≡ true → grant_at s t h true < c)
     → IsBefore (taken s t h).writes c
@@ -154,6 +163,7 @@ writes_before s t h c w e b f g =
     (written_before (item_at s t h).portions w.store (write_of s.plan.dwaits h.times.made (t + 1) w false)
     (write_of s.plan.dwaits h.times.made (t + 1) w true) h.writes c b f g)
 
+-- the transactions of the story with the item are granted before a cycle where its portions are
 sends_before : (s : Setup) (t : ℕ) (h : Story) (c : ℕ) (w : Access) → access_at s t h ≡ Some w → AreGranted h.sent c
     → grant_at s t h false < c → (reaches (item_at s t h).portions true ≡ true → grant_at s t h true < c)
     → AreGranted (taken s t h).sent c
@@ -178,18 +188,21 @@ unfolding ls_turn
 turn_due false first w rsp = refl
 turn_due true first w rsp = refl
 
+-- a portion that is due is asked for from this cycle on, or awaited where it is granted in it
 next_due : (b : Bool) (first : ℕ) (w : Access) (rsp : Rsp) (granted : Bool)
     → ls_next (ls_due b first) w rsp granted ≡ ls_asked b granted first
 unfolding ls_next
 next_due false first w rsp granted = refl
 next_due true first w rsp granted = refl
 
+-- a portion that isn't granted yet is still asked for, with the same wires
 turn_asked : (b : Bool) (first : ℕ) (w : Access) (rsp : Rsp)
     → ls_turn (ls_asked b false first) w rsp ≡ ls_asks (request_of (encode_of 32 7) w b)
 unfolding ls_turn
 turn_asked false first w rsp = refl
 turn_asked true first w rsp = refl
 
+-- a portion that is asked for stays so, or is awaited where it is granted in this cycle
 next_asked : (b : Bool) (first : ℕ) (w : Access) (rsp : Rsp) (granted : Bool)
     → ls_next (ls_asked b false first) w rsp granted ≡ ls_asked b granted first
 unfolding ls_next
@@ -200,17 +213,20 @@ next_asked true first w rsp granted = refl
 abbrev silent_rsp : Rsp
 silent_rsp = record { valid = false; err = false; word = 0 }
 
+-- a granted portion without an answer drives nothing
 turn_silent : (b : Bool) (first : ℕ) (w : Access) → ls_turn (ls_asked b true first) w silent_rsp ≡ awaits
 unfolding ls_turn
 turn_silent false first w = refl
 turn_silent true first w = refl
 
+-- a granted portion without an answer is awaited in the next cycle too
 next_silent : (b : Bool) (first : ℕ) (w : Access) (granted : Bool)
     → ls_next (ls_asked b true first) w silent_rsp granted ≡ ls_asked b true first
 unfolding ls_next
 next_silent false first w granted = refl
 next_silent true first w granted = refl
 
+-- a port that doesn't answer drives no answer
 rsp_silent : (p : PortState) → answers p ≡ false → answer_wires p ≡ silent_rsp
 unfolding answer_wires
 rsp_silent p e = ap (λ b. if b then record { valid = true; err = p.err; word = p.word } else silent_rsp) e
@@ -219,6 +235,7 @@ rsp_silent p e = ap (λ b. if b then record { valid = true; err = p.err; word = 
 abbrev rsp_with : Bool → ℕ → Rsp
 rsp_with err word = record { valid = true; err = err; word = word }
 
+-- a port that answers drives the error and the word that it holds
 rsp_comes : (p : PortState) (err : Bool) (word : ℕ) → answers p ≡ true → p.err ≡ err → p.word ≡ word
     → answer_wires p ≡ rsp_with err word
 unfolding answer_wires
@@ -232,6 +249,7 @@ unfolding ls_turn
 turn_bad false first word w = refl
 turn_bad true first word w = refl
 
+-- after an error the unit is idle, whichever portion it was
 next_bad : (b : Bool) (first word : ℕ) (w : Access) (granted : Bool)
     → ls_next (ls_asked b true first) w (rsp_with true word) granted ≡ ls_idle
 unfolding ls_next
@@ -246,6 +264,7 @@ unfolding ls_turn
 turn_first first v w true low e = rw (syndrome_of-encode 32 7 v low, e) refl
 turn_first first v w false low e = rw (syndrome_of-encode 32 7 v low, e, payload_of-encode 32 7 v low) refl
 
+-- after a good first answer the unit keeps its word for the second portion, or is idle
 next_first : (first v : ℕ) (w : Access) (two granted : Bool) → v < 2 ^ 32 → crosses w ≡ two
     → ls_next (ls_asked false true first) w (rsp_with false (encode_of 32 7 v)) granted
     ≡ (if two then ls_due true v else ls_idle)
@@ -259,6 +278,7 @@ turn_second : (first v : ℕ) (w : Access) → v < 2 ^ 32
 unfolding ls_turn
 turn_second first v w low = rw (syndrome_of-encode 32 7 v low, payload_of-encode 32 7 v low) refl
 
+-- after a good second answer the unit is idle
 next_second : (first v : ℕ) (w : Access) (granted : Bool) → v < 2 ^ 32
     → ls_next (ls_asked true true first) w (rsp_with false (encode_of 32 7 v)) granted ≡ ls_idle
 unfolding ls_next
@@ -269,10 +289,12 @@ gives_done : (store : Bool) (a b : ℕ) → (gives store a b).done ≡ true
 gives_done true a b = refl
 gives_done false a b = refl
 
+-- an end without a fault reports none
 gives_fault : (store : Bool) (a b : ℕ) → (gives store a b).fault ≡ 0
 gives_fault true a b = refl
 gives_fault false a b = refl
 
+-- an end without a fault drives no request
 gives_req : (store : Bool) (a b : ℕ) → (gives store a b).req ≡ no_request
 gives_req true a b = refl
 gives_req false a b = refl
@@ -297,6 +319,7 @@ record Acc (s : Setup) (t : ℕ) (h : Story) (v : Eyes) (w : Access) : Type 0 wh
 some_same : (w u : Access) → Some w ≡ Some u → w ≡ u
 some_same w u e = cc
 
+-- so what is known of the access that is seen is known of the one that the history has
 acc_for : (s : Setup) (t : ℕ) (h : Story) (v : Eyes) (w u : Access) → Acc s t h v w → access_at s t h ≡ Some u
     → Acc s t h v u
 acc_for s t h v w u a e = subst (Acc s t h v) (some_same w u (sym a.here ∙ e)) a
@@ -307,6 +330,7 @@ access_not_md (Some (Load op rd rs1 imm)) e = refl
 access_not_md (Some (Store size rs1 rs2 imm)) e = refl
 access_not_md row e = let no_ : false ≡ true = e in cc
 
+-- a load or store retires in the cycle in which its unit is done, and is held in phase 1 until then
 worked_access : (row : Option Insn) (id : IdState) (i : IdIn) → is_access row ≡ true
     → worked row id i ≡ (if i.ls_done then Retire false else Hold (held 1 id))
 unfolding worked
@@ -326,10 +350,12 @@ active_is v id w a r (inl e) =
 active_is v id w a r (inr e) =
     ap₂ (λ x n. is_some_access x && n == 0 && nat_lt id.phase 2) a r ∙ ap (λ n. nat_lt n 2) e
 
+-- the unit drives and answers as its own turn says
 seen_is : (v : Eyes) (id : IdState) (w : Access) (ls : Lsu) (rsp : Rsp) → v.access ≡ Some w → v.refused ≡ 0 → Early id
     → ls_seen v id ls rsp ≡ ls_turn ls w rsp
 seen_is v id w ls rsp a r e = ap₂ (λ b x. turn_by b x ls rsp) (active_is v id w a r e) a
 
+-- the unit's next fields are those of its own step
 next_is : (v : Eyes) (id : IdState) (w : Access) (ls : Lsu) (rsp : Rsp) (granted : Bool) → v.access ≡ Some w
     → v.refused ≡ 0 → Early id → ls_left v id ls rsp granted ≡ ls_next ls w rsp granted
 next_is v id w ls rsp granted a r e = ap₂ (λ b x. ls_by b x ls rsp granted) (active_is v id w a r e) a
@@ -348,6 +374,7 @@ acc_turn s t h id ls rsp v w a stage e none =
     ∙ plain_early id v x.done (fault_seen v x) (unfaulted v x a.unrefused ∙ none) a.untrapped
     ∙ worked_access v.row id (in_by v x.done (fault_seen v x)) a.row
 
+-- a portion's fault holds the item in the phase of that portion's trap
 fail_turn : (s : Setup) (t : ℕ) (h : Story) (id : IdState) (ls : Lsu) (rsp : Rsp) (v : Eyes) (w : Access) (b : Bool)
     → Acc s t h v w → ItemAt s t h id → Early id → (ls_seen v id ls rsp).fault ≡ portion_code b
     → turn_seen v id ls rsp ≡ Hold (held (portion_code b + 1) id)
@@ -369,6 +396,7 @@ late_done s limit t h v w b a r ne =
           (λ z. ne (a.trap ∙ z)),
     )
 
+-- until a portion has answered no trap is found, and the phase is 0 or 1
 portion_early : (s : Setup) (limit t : ℕ) (h : Story) (c : ℕ) (id : IdState) (v : Eyes) (w : Access) (b : Bool)
     → Acc s t h v w → Portion s t h w b → c ≤ answer_at s t h b → PhaseAt s limit t h c id.phase → Early id
 portion_early s limit t h c id v w b a r late (fresh e at) = inl e
@@ -376,6 +404,7 @@ portion_early s limit t h c id v w b a r late (later e less _) = inr e
 portion_early s limit t h c id v w b a r late (found e two less done) =
     absurd (omega (arith, late, done, late_done s limit t h v w b a r (λ z. absurd (omega (arith, e, z, two)))))
 
+-- while a portion's answer is to come the phase of the next cycle is 1
 portion_later : (s : Setup) (limit t : ℕ) (h : Story) (c : ℕ) (v : Eyes) (w : Access) (b : Bool) → Acc s t h v w
     → Portion s t h w b → c + 1 ≤ answer_at s t h b → t + 1 ≤ c → PhaseAt s limit t h (c + 1) 1
 portion_later s limit t h c v w b a r late in_ =
@@ -456,6 +485,7 @@ came s t h c p w b err g now un =
     (granted_answers s.plan.dwaits (number_at h b) (issue_at s t h b) (is_unmapped s (portion_addr w.addr b))
     (encode_of 32 7 (portion_word h w b)) c p g now) (g.err_is ∙ un) g.word_is
 
+-- the answer of a portion leaves the port free for the next transaction
 portion_free : (s : Setup) (t : ℕ) (h : Story) (c : ℕ) (p : PortState) (w : Access) (b : Bool) → Opened s t h w b c p
     → p.left ≡ 0 → Free s.plan.dwaits (suc (number_at h b)) p
 portion_free s t h c p w b g now =
@@ -469,6 +499,7 @@ second_portions s t h v w a r =
     a.portions ∙ second_by (is_unmapped s (portion_addr w.addr false)) (has_second w.addr w.size)
     (is_unmapped s (portion_addr w.addr true)) (sym (ap (λ k. reaches k true) a.portions) ∙ r.reached)
 
+-- where no memory answers a portion that is reached, the access ends at it in an error
 bad_portions : (s : Setup) (t : ℕ) (h : Story) (v : Eyes) (w : Access) (b : Bool) → Acc s t h v w → Portion s t h w b
     → is_unmapped s (portion_addr w.addr b) ≡ true → (item_at s t h).portions ≡ fails b
 bad_portions s t h v w false a r un =
@@ -512,6 +543,7 @@ granted_first : (s : Setup) (t : ℕ) (h : Story) (b : Bool) → grant_at s t h 
 unfolding answer_time grant_time
 granted_first s t h b = omega arith
 
+-- the second answer comes two cycles after the first or later
 second_late : (s : Setup) (t : ℕ) (h : Story) → answer_at s t h false + 1 < answer_at s t h true
 unfolding answer_time grant_time
 second_late s t h = omega arith
@@ -554,6 +586,7 @@ comes_first s limit t h c id md ls p v w state sees full a r l g now un two =
 gives_first : (store : Bool) (a b : ℕ) → store ≡ false → (gives store a b).first ≡ a
 gives_first store a b e = ap (λ k. (gives k a b).first) e
 
+-- a load that ends well gives the second word that it was handed
 gives_second : (store : Bool) (a b : ℕ) → store ≡ false → (gives store a b).second ≡ b
 gives_second store a b e = ap (λ k. (gives k a b).second) e
 
@@ -625,6 +658,7 @@ comes_alone s limit t h c id md ls p v w state full a r l g now un one =
     ∙ ap₂ (λ u q. ls_next u w q false) l (came s t h c p w false false g now un)
     ∙ next_first first first w false false low one)
 
+-- a good answer of the second portion ends the item in this cycle
 comes_second : (s : Setup) (limit t : ℕ) (h : Story) (c : ℕ) (id : IdState) (md : MulDivUnit) (ls : Lsu)
     (p : PortState) (v : Eyes) (w : Access) → IsState s c h → Full s limit t h c id md ls p → Acc s t h v w
     → Portion s t h w true → ls ≡ ls_asked true true (portion_word h w false) → Opened s t h w true c p → p.left ≡ 0
@@ -659,6 +693,7 @@ comes_good s limit t h c id md ls p v w false false state sees full a r l g now 
 comes_good s limit t h c id md ls p v w true two state sees full a r l g now un e =
     comes_second s limit t h c id md ls p v w state full a r l g now un
 
+-- an answer turns the access as it should, be it good or an error
 comes_by : (s : Setup) (limit t : ℕ) (h : Story) (c : ℕ) (id : IdState) (md : MulDivUnit) (ls : Lsu) (p : PortState)
     (v : Eyes) (w : Access) (b err : Bool) → IsState s c h → Sees s t h c id v → Full s limit t h c id md ls p
     → Acc s t h v w → Portion s t h w b → ls ≡ ls_asked b true (portion_word h w false) → Opened s t h w b c p
@@ -678,6 +713,7 @@ failed_still v id w false a r e =
 failed_still v id w true a r e =
     ap₂ (λ x n. is_some_access x && n == 0 && nat_lt id.phase 2) a r ∙ ap (λ n. nat_lt n 2) e
 
+-- in the cycle after the error the phase is that of the bad portion's trap
 failed_phase : (s : Setup) (limit t : ℕ) (h : Story) (c : ℕ) (id : IdState) (v : Eyes) (w : Access) (b : Bool)
     → Acc s t h v w → (item_at s t h).portions ≡ fails b → answer_at s t h b + 1 ≡ c → PhaseAt s limit t h c id.phase
     → id.phase ≡ portion_code b + 1
@@ -694,6 +730,7 @@ failed_phase s limit t h c id v w b a portions at (later e less g) =
 failed_phase s limit t h c id v w b a portions at (found e two less done) =
     e ∙ a.trap ∙ ap portions_phase portions ∙ fails_phase b
 
+-- so the trap of the bad portion ends the item in the cycle after the error
 failed_way : (s : Setup) (limit t : ℕ) (h : Story) (c : ℕ) (id : IdState) (md : MulDivUnit) (ls : Lsu) (p : PortState)
     (v : Eyes) (w : Access) (b : Bool) → IsState s c h → Full s limit t h c id md ls p → Acc s t h v w
     → (item_at s t h).portions ≡ fails b → ls ≡ ls_idle → answer_at s t h b + 1 ≡ c
@@ -762,6 +799,7 @@ access_by_portion s limit t h c id md ls p v w state sees full a (opened u b r l
 access_by_portion s limit t h c id md ls p v w state sees full a (failed b portions l at i) =
     failed_way s limit t h c id md ls p v w b state full a portions l at i
 
+-- an item turns as it should, on whichever way it ends
 turns_by_way : (s : Setup) (limit t : ℕ) (h : Story) (c : ℕ) (id : IdState) (md : MulDivUnit) (ls : Lsu)
     (p : PortState) (v : Eyes) → c < limit → IsState s c h → Sees s t h c id v → Full s limit t h c id md ls p
     → Way s t h c v → Turned s limit t h c id md ls p v

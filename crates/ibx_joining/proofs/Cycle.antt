@@ -291,6 +291,7 @@ taken_words : (s : Setup) (h : Story) (c q : ℕ) (enable : Bool) (f : Prefetch)
 unfolding taken admitted
 taken_words s h c q enable f w p tags lines t = t.words
 
+-- the fetch of an instruction that enters began before its admission
 taken_begun : (s : Setup) (h : Story) (c q : ℕ) (enable : Bool) (f : Prefetch) (w : WordPort) (p : PortState)
     (tags lines : List ℕ)
     → Takes s (taken s c h).writes h.times.stream h.times.half (item_at s c h).parcels q c enable f w p tags lines
@@ -299,6 +300,7 @@ taken_begun : (s : Setup) (h : Story) (c q : ℕ) (enable : Bool) (f : Prefetch)
 unfolding taken admitted
 taken_begun s h c q enable f w p tags lines t real kind = t.begun (real kind)
 
+-- the words that are requested, up to three behind those taken, are the same with the item that enters
 taken_past : (s : Setup) (h : Story) (c q : ℕ) → q ≤ length h.times.stream.enters + 3
     → past (settings_of s) (taken s c h).times.stream q ≡ past (settings_of s) h.times.stream q
 unfolding taken admitted
@@ -366,6 +368,7 @@ enters_by s ph ok limit h q st g e n m fetch port wires (item a) =
       load_store_is = wires ∙ sym a.wires;
     }
 
+-- so a stage that the done leaves empty admits what is due, and the invariant follows
 enters_in : (s : Setup) → Phases s → IsPlaced s
     → (limit : ℕ) (h : Story) (q : ℕ) (st : System) (g : Sight) (e : Effect) → st.cycle < limit
     → Middle s limit h None q st g e → Goes s limit h st g e (entry_after s st g e)

@@ -38,10 +38,12 @@ over_by : (b : Bool) (r s : Req) → (if b && false then r else s) ≡ s
 over_by true r s = refl
 over_by false r s = refl
 
+-- a transaction that was granted before the cycle is no longer on the wires
 pub over : (x : Transaction) (sent : List Transaction) (c : ℕ) → x.grant < c → wires_at (x ∷ sent) c ≡ wires_at sent c
 over x sent c h = shown_by x sent c (nat_le x.issue c) false refl (lt-leb c x.grant h)
     ∙ over_by (nat_le x.issue c) x.wires (wires_at sent c)
 
+-- a transaction that is issued after the cycle isn't on the wires yet
 pub to_come : (x : Transaction) (sent : List Transaction) (c : ℕ) → c < x.issue
     → wires_at (x ∷ sent) c ≡ wires_at sent c
 to_come x sent c h = shown_by x sent c false (nat_le c x.grant) (lt-leb x.issue c h) refl
@@ -58,13 +60,14 @@ none_wired (x ∷ sent) c g = none_wired sent c g.1 ∙ sym (over x sent c g.0)
 abbrev sent_portion : Setup → ℕ → Story → Access → Bool → Transaction
 sent_portion s t h w b = portion_sent s.plan.dwaits h.times.made (t + 1) w b
 
+-- the story with an access has its portions' transactions in front of those before
 access_sent : (s : Setup) (t : ℕ) (h : Story) (w : Access) → access_at s t h ≡ Some w
     → (taken s t h).sent ≡ sent_by (item_at s t h).portions (sent_portion s t h w false) (sent_portion s t h w true)
     h.sent
 unfolding taken
 access_sent s t h w e = ap (λ a. sent_with s.plan.dwaits h.times.made (t + 1) (item_at s t h).portions a h.sent) e
 
--- the wires of what an access sends, where the second portion is to come or is granted before
+-- before the second portion's issue the wires of an access are those with its first portion alone
 first_wires : (portions : Portions) (x y : Transaction) (ts : List Transaction) (c : ℕ) → reaches portions false ≡ true
     → c < y.issue → wires_at (sent_by portions x y ts) c ≡ wires_at (x ∷ ts) c
 unfolding sent_by
@@ -100,6 +103,7 @@ unfolding grant_time
 ask_late ws n x c p (due e f) = omega (arith, e)
 ask_late ws n x c p (held w) = w.late
 
+-- no portion is asked for before its issue
 pub ask_early : (ws : List Wait) (n x c : ℕ) (p : PortState) → Ask ws n x c p → x ≤ c
 ask_early ws n x c p (due e f) = omega (arith, e)
 ask_early ws n x c p (held w) = omega (arith, w.waited)
@@ -151,6 +155,7 @@ unfolding answer_time grant_time
 opened_wires s t h c w false p r o g = between_wires s t h c w r.access r.reached g o.past (omega (arith, o.left))
 opened_wires s t h c w true p r o g = after_wires s t h c w r.access r.reached g (omega (arith, o.past)) o.past
 
+-- in the cycle of the first answer, before the second portion is asked for, no request is on the wires
 turns_wires : (s : Setup) (t : ℕ) (h : Story) (c : ℕ) (w : Access) → Portion s t h w true → answer_at s t h false ≡ c
     → AreGranted h.sent c → no_request ≡ wires_at (taken s t h).sent c
 unfolding answer_time grant_time
@@ -162,11 +167,12 @@ none_taken : (s : Setup) (t : ℕ) (h : Story) → access_at s t h ≡ None → 
 unfolding taken
 none_taken s t h e = ap (λ a. sent_with s.plan.dwaits h.times.made (t + 1) (item_at s t h).portions a h.sent) e
 
--- an answer that is an error leaves nothing on the wires
+-- an access that ends in an error reaches its bad portion
 fails_reach : (b : Bool) → reaches (fails b) b ≡ true
 fails_reach false = refl
 fails_reach true = refl
 
+-- in the cycle of an answer that is an error no request is on the wires
 failed_wires : (s : Setup) (t : ℕ) (h : Story) (c : ℕ) (b : Bool) (a : Option Access) → access_at s t h ≡ a
     → (item_at s t h).portions ≡ fails b → answer_at s t h b ≡ c → AreGranted h.sent c
     → no_request ≡ wires_at (taken s t h).sent c
@@ -189,6 +195,7 @@ mid_wires s t h c req next p g (turns w part r l at f) = r ∙ turns_wires s t h
 mid_wires s t h c req next p g (failed b portions r l at f) =
     r ∙ failed_wires s t h c b (access_at s t h) refl portions at g
 
+-- so the data port's wires are those of the history, with an item that stays or without
 pub stage_wires : (s : Setup) → StageWires s
 stage_wires s limit h None c id md req next p settled m = m.quiet ∙ none_wired h.sent c settled.granted
 stage_wires s limit h (Some t) c id md req next p settled m = mid_wires s t h c req next p settled.granted m.part

@@ -66,15 +66,18 @@ pub turn_is : (s : Setup) (st : System)
 unfolding sight_by in_of
 turn_is s st = refl
 
+-- what the load-store unit drives and answers is as the stage's eyes see it
 pub ls_is : (s : Setup) (st : System)
     → (sight_in s st).ls ≡ ls_seen (eyes s st) st.main.id st.main.ls (answer_wires st.dport)
 unfolding sight_by in_of
 ls_is s st = refl
 
+-- so is the multiplier before its tick
 pub md_is : (s : Setup) (st : System) → (sight_in s st).md ≡ md_seen s (eyes s st) st.main.id st.main.md
 unfolding sight_by in_of
 md_is s st = refl
 
+-- and so are the unit's next fields, with a grant or without
 left_is : (s : Setup) (st : System)
     → ls_in st (sight_in s st) ≡ ls_left (eyes s st) st.main.id st.main.ls (answer_wires st.dport)
 unfolding sight_by in_of
@@ -124,15 +127,18 @@ unfolding turn_of
 turn_idle id i e = ap (λ b. if not b then Idle else if nat_le 2 id.kind then Irq else if id.kind == 1
     then (if nat_le i.cost id.count || nat_le 2 id.phase then Dummy else Hold (held 1 id)) else real_turn id i) e
 
+-- a stage without an item sees no access
 no_access : (id : IdState) (csrs : Csrs) (rega regb lines : ℕ) (mul : MulKind) → id.valid ≡ false
     → (eyes_of id csrs rega regb lines mul).access ≡ None
 no_access id csrs rega regb lines mul e =
     ap (λ b. if b && id.kind == 0 then access_by (row_of id) (payload_of 32 rega) (payload_of 32 regb) else None) e
 
+-- without an access the load-store unit drives nothing and ends nothing
 no_turn : (access : Option Access) (r p : Bool) (ls : Lsu) (rsp : Rsp) → access ≡ None
     → turn_by (is_some_access access && r && p) access ls rsp ≡ awaits
 no_turn access r p ls rsp e = ap (λ a. turn_by (is_some_access a && r && p) a ls rsp) e
 
+-- without an access the load-store unit keeps its fields, with a grant or without
 no_next : (access : Option Access) (r p : Bool) (ls : Lsu) (rsp : Rsp) (granted : Bool) → access ≡ None
     → ls_by (is_some_access access && r && p) access ls rsp granted ≡ ls
 no_next access r p ls rsp granted e = ap (λ a. ls_by (is_some_access a && r && p) a ls rsp granted) e
@@ -142,6 +148,7 @@ rests_in : (s : Setup) (st : System) → (sight_in s st).turn ≡ Idle → effec
 unfolding effect_by
 rests_in s st e = ap (λ t. effect_by t st.main (sight_in s st) (in_of s st)) e
 
+-- a turn that holds an item has the effects of a cycle at rest too
 holds_in : (s : Setup) (st : System) (next : IdState) → (sight_in s st).turn ≡ Hold next
     → effect_in s st ≡ rests st.main
 unfolding effect_by
@@ -182,15 +189,18 @@ unfolding after_event
 ended_made s h y (Some choice) i d = refl
 ended_made s h y None i d = refl
 
+-- the done of an item adds no write to the story with it
 ended_writes : (s : Setup) (h y : Story) (o : Option Choice) (i : Item) (d : ℕ)
     → (ended_by s h o i d y).writes ≡ y.writes
 ended_writes s h y (Some choice) i d = refl
 ended_writes s h y None i d = refl
 
+-- the done of an item adds no transaction of the data port
 ended_sent : (s : Setup) (h y : Story) (o : Option Choice) (i : Item) (d : ℕ) → (ended_by s h o i d y).sent ≡ y.sent
 ended_sent s h y (Some choice) i d = refl
 ended_sent s h y None i d = refl
 
+-- the story after an item has that item's done as its last
 ended_done : (s : Setup) (h y : Story) (o : Option Choice) (i : Item) (d : ℕ) → (ended_by s h o i d y).done ≡ d
 ended_done s h y (Some choice) i d = refl
 ended_done s h y None i d = refl
@@ -201,14 +211,17 @@ next_made : (s : Setup) (limit t : ℕ) (h : Story)
 unfolding continued taken admitted
 next_made s limit t h = ended_made s h (taken s t h) (choice_at s t h) (item_at s t h) (done_at s limit t h)
 
+-- the next item's story begins with the writes of this one
 next_writes : (s : Setup) (limit t : ℕ) (h : Story) → (continued s limit t h).writes ≡ (taken s t h).writes
 unfolding continued
 next_writes s limit t h = ended_writes s h (taken s t h) (choice_at s t h) (item_at s t h) (done_at s limit t h)
 
+-- the next item's story begins with the transactions of this one
 next_sent : (s : Setup) (limit t : ℕ) (h : Story) → (continued s limit t h).sent ≡ (taken s t h).sent
 unfolding continued
 next_sent s limit t h = ended_sent s h (taken s t h) (choice_at s t h) (item_at s t h) (done_at s limit t h)
 
+-- the last done in the next item's story is this one's
 next_done : (s : Setup) (limit t : ℕ) (h : Story) → (continued s limit t h).done ≡ done_at s limit t h
 unfolding continued
 next_done s limit t h = ended_done s h (taken s t h) (choice_at s t h) (item_at s t h) (done_at s limit t h)

@@ -54,6 +54,7 @@ unfolding first_from
 first_now zero test c h e = absurd (omega arith)
 first_now (suc n) test c h e = rw e refl
 
+-- where the test fails the search goes on from the next cycle
 pub first_later : (n : ℕ) (test : ℕ → Bool) (c : ℕ) → 0 < n → test c ≡ false
     → first_from n test c ≡ first_from (n - 1) test (c + 1)
 unfolding first_from
@@ -92,6 +93,7 @@ pub inactive_turn : (b : Bool) (access : Option Access) (ls : Lsu) (rsp : Rsp) �
     → turn_by b access ls rsp ≡ awaits
 inactive_turn b access ls rsp e = ap (λ k. turn_by k access ls rsp) e
 
+-- a unit that isn't at work keeps its fields, with a grant or without
 pub inactive_next : (b : Bool) (access : Option Access) (ls : Lsu) (rsp : Rsp) (granted : Bool) → b ≡ false
     → ls_by b access ls rsp granted ≡ ls
 inactive_next b access ls rsp granted e = ap (λ k. ls_by k access ls rsp granted) e
@@ -104,23 +106,27 @@ unfolding written_by
 none_by true x y old = refl
 none_by false x y old = refl
 
+-- no portion means no write, whatever the access
 none_written : (ws : List Wait) (n e : ℕ) (a : Option Access) (old : List Write)
     → writes_with ws n e NoPortion a old ≡ old
 none_written ws n e None old = refl
 none_written ws n e (Some w) old = none_by w.store (write_of ws n e w false) (write_of ws n e w true) old
 
+-- no portion means no transaction, whatever the access
 none_sent : (ws : List Wait) (n e : ℕ) (a : Option Access) (old : List Transaction)
     → sent_with ws n e NoPortion a old ≡ old
 unfolding sent_by
 none_sent ws n e None old = refl
 none_sent ws n e (Some w) old = refl
 
+-- the story with such an item has the writes of before
 pub taken_writes : (s : Setup) (t : ℕ) (h : Story) → (item_at s t h).portions ≡ NoPortion
     → (taken s t h).writes ≡ h.writes
 unfolding taken
 taken_writes s t h e = ap (λ k. writes_with s.plan.dwaits h.times.made (t + 1) k (access_at s t h) h.writes) e
     ∙ none_written s.plan.dwaits h.times.made (t + 1) (access_at s t h) h.writes
 
+-- the story with such an item has the transactions of before
 pub taken_sent : (s : Setup) (t : ℕ) (h : Story) → (item_at s t h).portions ≡ NoPortion → (taken s t h).sent ≡ h.sent
 unfolding taken
 taken_sent s t h e = ap (λ k. sent_with s.plan.dwaits h.times.made (t + 1) k (access_at s t h) h.sent) e
@@ -141,6 +147,7 @@ done_none s limit t h c e running =
     done_is s limit t h ∙ ap (λ k. done_by s.plan.dwaits k h.times.made (t + 1) (stop_at s limit t h)) e
     ∙ plain_done s.plan.dwaits h.times.made (t + 1) (stop_at s limit t h) ∙ running e
 
+-- an item that may end in this cycle is done in it
 pub ended_now : (s : Setup) (limit t : ℕ) (h : Story) (c : ℕ) → (item_at s t h).portions ≡ NoPortion
     → Running s limit t h c → c < limit → may_end (settings_of s) (item_at s t h) h.times.ctl (t + 1) c ≡ true
     → done_at s limit t h ≡ c
@@ -148,6 +155,7 @@ ended_now s limit t h c e running less m =
     done_none s limit t h c e running
     ∙ first_now (limit - c) (may_end (settings_of s) (item_at s t h) h.times.ctl (t + 1)) c (omega arith) m
 
+-- where it may not end in this cycle, the search for its end goes on from the next
 pub runs_on : (s : Setup) (limit t : ℕ) (h : Story) (c : ℕ) → Running s limit t h c → c < limit
     → may_end (settings_of s) (item_at s t h) h.times.ctl (t + 1) c ≡ false → Running s limit t h (c + 1)
 runs_on s limit t h c running less m e =
@@ -159,6 +167,7 @@ ends_timed : (k : Settings) (i : Item) (ctl : Ctl) (e cost u : ℕ) → i.sleeps
     → may_end k i ctl e u ≡ nat_le (e + cost) u
 ends_timed k i ctl e cost u a b = ap₂ (λ x n. if x then is_woken ctl (lines_in k u) else nat_le (e + n) u) a b
 
+-- a WFI may end just in a cycle whose interrupt lines wake it
 ends_woken : (k : Settings) (i : Item) (ctl : Ctl) (e u : ℕ) → i.sleeps ≡ true
     → may_end k i ctl e u ≡ is_woken ctl (lines_in k u)
 ends_woken k i ctl e u a = ap (λ x. if x then is_woken ctl (lines_in k u) else nat_le (e + i.cost) u) a
@@ -180,6 +189,7 @@ counted cost count t c few e in_ =
       | inr h ↦ le-leb cost count (omega (arith, e)) ∙ sym (le-leb (t + 1 + cost) c h)
     ]
 
+-- the count of the next cycle is one more, and stays at 63
 pub count_next : (count t c : ℕ) → count ≡ count_at t c → t + 1 ≤ c
     → (if nat_lt count 63 then count + 1 else 63) ≡ count_at t (c + 1)
 count_next count t c e in_ =
@@ -207,6 +217,7 @@ ends_by true phase early = refl
 ends_by false phase (inl e) = ap (nat_le 2) e
 ends_by false phase (inr e) = ap (nat_le 2) e
 
+-- a dummy ends once its count has come to its cost, and is held in phase 1 until then
 turn_dummy : (id : IdState) (i : IdIn) → id.valid ≡ true → id.kind ≡ 1 → (id.phase ≡ 0) ⊎ (id.phase ≡ 1)
     → turn_of id i ≡ (if nat_le i.cost id.count then Dummy else Hold (held 1 id))
 unfolding turn_of
@@ -214,6 +225,7 @@ turn_dummy id i v k early = ap₂ (λ b n. if not b then turn_none else if nat_l
     then (if nat_le i.cost id.count || nat_le 2 id.phase then Dummy else Hold (held 1 id)) else real_turn id i) v k
     ∙ ap (λ b. if b then Dummy else Hold (held 1 id)) (ends_by (nat_le i.cost id.count) id.phase early)
 
+-- an item of kind 0 turns as a real one
 turn_real : (id : IdState) (i : IdIn) → id.valid ≡ true → id.kind ≡ 0 → turn_of id i ≡ real_turn id i
 unfolding turn_of
 turn_real id i v k = ap₂ (λ b n. if not b then turn_none else if nat_le 2 n then Irq else if n == 1
@@ -249,6 +261,7 @@ md_rest false (Some (MulDiv op rd rs1 rs2)) md a c fixed mul e = let no_ : true 
 md_rest true row md a c fixed mul e = refl
 md_rest false row md a c fixed mul e = refl
 
+-- an idle multiplier stays idle while the item is held
 held_idle : (next : IdState) → md_next (Hold next) md_idle ≡ md_idle
 unfolding md_idle
 held_idle next = refl
@@ -271,6 +284,7 @@ md_start : (b : Bool) (row : Option Insn) (md : MulDivUnit) (a c : ℕ) (fixed :
     → md_by b row md a c fixed mul ≡ start_of op a c fixed mul
 md_start b row md a c fixed mul op rd rs1 rs2 e r = ap₂ (λ k x. md_by k x md a c fixed mul) e r
 
+-- after the first cycle of an M row the unit goes on with what it has
 md_kept : (b : Bool) (row : Option Insn) (md : MulDivUnit) (a c : ℕ) (fixed : Bool) (mul : MulKind) (op : MdOp)
     (rd rs1 rs2 : ℕ) → b ≡ false → row ≡ Some (MulDiv op rd rs1 rs2) → md_by b row md a c fixed mul ≡ md
 md_kept b row md a c fixed mul op rd rs1 rs2 e r = ap₂ (λ k x. md_by k x md a c fixed mul) e r
@@ -286,6 +300,7 @@ zero_phase s limit t h c phase now (fresh e at) = e
 zero_phase s limit t h c phase now (later e less _) = absurd (omega (arith, now, less))
 zero_phase s limit t h c phase now (found e two less done) = absurd (omega (arith, now, less))
 
+-- after the item's first cycle the phase is never 0 again
 some_phase : (s : Setup) (limit t : ℕ) (h : Story) (c phase : ℕ) → t + 1 < c → PhaseAt s limit t h c phase → phase ≢ 0
 some_phase s limit t h c phase past_ (fresh e at) = λ z. absurd (omega (arith, past_, at))
 some_phase s limit t h c phase past_ (later e less _) = λ z. absurd (omega (arith, e, z))
@@ -315,9 +330,11 @@ record MdValue (s : Setup) (t : ℕ) (h : Story) (c : ℕ) (id : IdState) (md : 
 op_same : (a e : MdOp) (b c d f g i : ℕ) → Some (MulDiv a b c d) ≡ Some (MulDiv e f g i) → a ≡ e
 op_same a e b c d f g i k = cc
 
+-- an M row has one first source
 first_same : (a e : MdOp) (b c d f g i : ℕ) → Some (MulDiv a b c d) ≡ Some (MulDiv e f g i) → c ≡ g
 first_same a e b c d f g i k = cc
 
+-- an M row has one second source
 second_same : (a e : MdOp) (b c d f g i : ℕ) → Some (MulDiv a b c d) ≡ Some (MulDiv e f g i) → d ≡ i
 second_same a e b c d f g i k = cc
 
@@ -424,6 +441,7 @@ quiet_ends s limit t h c id md ls p v state sees full none still done turn over 
     same_cost b cost t c n left e (inl over) at eq = omega arith
     same_cost b cost t c n left e (inr f) at eq = let no_ : true ≡ false = sym e ∙ f in cc
 
+-- an item that may not end yet and is held stays in the stage with its next phase
 quiet_stays : (s : Setup) (limit t : ℕ) (h : Story) (c : ℕ) (id : IdState) (md : MulDivUnit) (ls : Lsu) (p : PortState)
     (v : Eyes) (phase : ℕ) → c < limit → IsState s c h → Sees s t h c id v → Full s limit t h c id md ls p
     → (item_at s t h).portions ≡ NoPortion → is_active v id ≡ false
@@ -451,6 +469,7 @@ quiet_stays s limit t h c id md ls p v phase low state sees full none still not_
 still_by : (v : Eyes) (id : IdState) → v.access ≡ None → is_active v id ≡ false
 still_by v id e = ap (λ a. is_some_access a && v.refused == 0 && nat_lt id.phase 2) e
 
+-- with no access and no refusal the stage sees no fault
 no_fault : (v : Eyes) (id : IdState) (ls : Lsu) (rsp : Rsp) → v.access ≡ None → v.refused ≡ 0
     → fault_seen v (ls_seen v id ls rsp) ≡ 0
 no_fault v id ls rsp e r = ap₂ (λ n (x : LsTurn). if n == 0 then x.fault else n) r
@@ -462,6 +481,7 @@ pub early_of : (id : IdState) (i : IdIn) → id.valid ≡ true → id.kind ≡ 0
 early_of id i v k (inl e) = turn_real id i v k ∙ real_phase id i 0 e
 early_of id i v k (inr e) = turn_real id i v k ∙ real_phase id i 1 e
 
+-- in phase 2, 3 or 4 a real item's turn is its trap, and before that the early turn
 pub late_of : (id : IdState) (i : IdIn) (n : ℕ) → id.valid ≡ true → id.kind ≡ 0 → id.phase ≡ n
     → turn_of id i ≡ (if n == 2 then Trap 1 else if n == 3 then Trap 2 else if nat_le 4 n then Trap 0
     else early_turn id i)
@@ -474,6 +494,7 @@ is_early s limit t h c phase none (fresh e at) = inl e
 is_early s limit t h c phase none (later e less _) = inr e
 is_early s limit t h c phase none (found e two less done) = absurd (omega (arith, e, none, two))
 
+-- an item without a trap is in phase 1 in each cycle after its first
 goes_later : (s : Setup) (limit t : ℕ) (h : Story) (c : ℕ) → trap_phase s t h ≡ 0 → t + 1 ≤ c
     → PhaseAt s limit t h (c + 1) 1
 goes_later s limit t h c none in_ = later refl (omega arith) (λ some. absurd (some none))
@@ -483,6 +504,7 @@ pub real_kind : (s : Setup) (t : ℕ) (h : Story) (id : IdState) → ItemAt s t 
     → id.kind ≡ 0
 real_kind s t h id i e = i.kind ∙ ap (λ k. (staged_by s h k).kind) e
 
+-- a dummy has no trap
 dummy_phase : (s : Setup) (t : ℕ) (h : Story) → kind_of s t h ≡ ADummy → trap_phase s t h ≡ 0
 unfolding trap_phase
 dummy_phase s t h e = ap (λ k. view_phase (view_by s h (choice_by s h k))) e
@@ -553,6 +575,7 @@ dummy_way s limit t h c id md ls p v low state sees full kind plain =
           (inl (omega (arith, late, plain.cost_is)))
     ]
 
+-- an interrupt is done in its first cycle
 pub interrupt_way : (s : Setup) (limit t : ℕ) (h : Story) (c : ℕ) (id : IdState) (md : MulDivUnit) (ls : Lsu)
     (p : PortState) (v : Eyes) (number : ℕ) → c < limit → IsState s c h → Sees s t h c id v
     → Full s limit t h c id md ls p → kind_of s t h ≡ AnInterrupt number → IsPlain s t h v 0
@@ -570,6 +593,7 @@ interrupt_way s limit t h c id md ls p v number low state sees full kind plain =
     ∙ sym (ap (λ k. ending k (trap_phase s t h) (item_at s t h).redirects) kind))
     (inl (omega (arith, in_, plain.cost_is)))
 
+-- a WFI sleeps in the stage until a line wakes it, and is done in that cycle
 pub sleeps_way : (s : Setup) (limit t : ℕ) (h : Story) (c : ℕ) (id : IdState) (md : MulDivUnit) (ls : Lsu)
     (p : PortState) (v : Eyes) → c < limit → IsState s c h → Sees s t h c id v → Full s limit t h c id md ls p
     → kind_of s t h ≡ AnInstruction → v.row ≡ Some Wfi → v.access ≡ None → v.refused ≡ 0 → v.trap ≡ None
@@ -685,6 +709,7 @@ refused_still : (v : Eyes) (id : IdState) (w : Access) (b : Bool) → v.access �
 refused_still v id w false a r = ap₂ (λ x n. is_some_access x && n == 0 && nat_lt id.phase 2) a r
 refused_still v id w true a r = ap₂ (λ x n. is_some_access x && n == 0 && nat_lt id.phase 2) a r
 
+-- the fault that the stage sees is that of the refused portion
 refused_fault : (v : Eyes) (turn : LsTurn) (b : Bool) → v.refused ≡ portion_code b → fault_seen v turn ≡ portion_code b
 refused_fault v turn false r = ap (λ n. if n == 0 then turn.fault else n) r
 refused_fault v turn true r = ap (λ n. if n == 0 then turn.fault else n) r
@@ -699,6 +724,7 @@ fault_early id v over fault true e =
     ap (λ n. if n == 1 then Hold (held 2 id) else if n == 2 then Hold (held 3 id) else if is_some_cause v.trap
     then Hold (held 4 id) else worked v.row id (in_by v over fault)) e
 
+-- in the phase of a portion's trap the turn is that trap, and ends the item
 pub portion_late : (id : IdState) (i : IdIn) (b r : Bool) → id.valid ≡ true → id.kind ≡ 0
     → id.phase ≡ portion_code b + 1 → turn_of id i ≡ ending_by (portion_code b + 1) r
 portion_late id i false r v k e = late_of id i 2 v k e

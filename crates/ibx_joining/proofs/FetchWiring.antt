@@ -32,6 +32,7 @@ bare_sent k ss fs y t a e =
     ap (λ b. (request_by b (is_present fs y.fills (line_of a) t) (is_kept k fs y t a)
     (found_slot fs y.fills (line_of a) t) (victim fs y.fills (line_of a) t) k y t a).sent) e
 
+-- a miss sends two transactions, the second issued at the answer of the first
 miss_sent : (k : Settings) (ss : List Switch) (fs : List ℕ) (y : Past) (t a : ℕ) → is_cached ss fs t ≡ true
     → is_present fs y.fills (line_of a) t ≡ false
     → (after_request k ss fs y t a).sent
@@ -61,12 +62,14 @@ looks_sent k ss fs y t a c e false f now =
 wires_of_doing : (w : WordPort) (g : Doing) → doing_of w.c_state ≡ g → wires_in w ≡ wires_by g w.c_addr
 wires_of_doing w g e = ap (λ d. wires_by d w.c_addr) e
 
+-- a port drives no request while it rests, looks up, waits or answers
 rest_wires : (addr : ℕ) → (wires_by Rests addr ≡ no_request) × (wires_by Looks addr ≡ no_request)
     × (wires_by AwaitsFirst addr ≡ no_request) × (wires_by AwaitsSecond addr ≡ no_request)
     × (wires_by Answers addr ≡ no_request) × (wires_by AwaitsBare addr ≡ no_request)
 unfolding wires_by
 rest_wires addr = (refl, refl, refl, refl, refl, refl)
 
+-- a port that asks drives the address of its word, or that of a word of its line
 ask_wires : (addr : ℕ) → (wires_by AsksBare addr ≡ fetch_wires (addr / 4 * 4))
     × (wires_by AsksFirst addr ≡ fetch_wires (addr / 8 * 8))
     × (wires_by AsksSecond addr ≡ fetch_wires (addr / 8 * 8 + 4))
@@ -151,6 +154,7 @@ mid_wired s log x q c busy w p tags lines sent (pending y t a work) =
     (granted_later y.sent y.answer c (omega (arith, a.order, a.early)) a.sent) a.addr a.aligned work
     ∙ sym (ap (λ (z : Past). wires_at z.sent c) a.left)
 
+-- so the wires of the fetch port are those of the history's transactions
 pub fetch_wired : (s : Setup) → FetchWires s
 fetch_wired s log x half q c walk fence enable next f w p tags lines u =
     mid_wired s log x q c f.f_busy w p tags lines u.sent u.mid

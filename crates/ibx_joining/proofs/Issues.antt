@@ -30,11 +30,12 @@ use Rattle.ibx_icache.specs.declared.port.WordPort.{WordPort}
 
 -- ---- the walk and the enable bit, against what the equations ask
 
--- the walk has ended just where the equations say so
+-- the last walk began in this cycle or before it
 starts_before : (fs : List ℕ) (c : ℕ) → IsLog fs c → starts fs ≤ c
 starts_before [] c l = omega arith
 starts_before (f ∷ fs) c l = omega (arith, l.0)
 
+-- the walk has ended from the 256th cycle after its start on
 walked_old : (fs : List ℕ) (t : ℕ) → starts fs ≤ t → starts fs + 256 ≤ t → IsLog fs t → is_walked fs t ≡ true
 unfolding is_walked
 walked_old [] t b h l = le-leb 256 t (omega arith)
@@ -43,11 +44,13 @@ walked_old (f ∷ fs) t b h l =
     (walked_old fs t (omega (arith, starts_before fs (f + 1) l.1)) (omega (arith, starts_before fs (f + 1) l.1))
     (log_more fs (f + 1) t (omega arith) l.1))
 
+-- the walk goes on in the 256 cycles from its start on
 walked_not : (fs : List ℕ) (t : ℕ) → starts fs ≤ t → t < starts fs + 256 → is_walked fs t ≡ false
 unfolding is_walked
 walked_not [] t b h = lt-leb 256 t (omega arith)
 walked_not (f ∷ fs) t b h = rw (le-ltb t f (omega arith), le-ltb (f + 256) t (omega arith)) refl
 
+-- so the walk has come to 256 just where the equations say that it has ended
 walk_is : (fs : List ℕ) (c walk : ℕ) → WalkAt fs c walk → nat_le 256 walk ≡ is_walked fs c
 walk_is fs c walk w =
     let b : starts fs ≤ c = starts_before fs c w.log in
@@ -61,6 +64,7 @@ walked_fence : (fs : List ℕ) (c : ℕ) → is_walked (c ∷ fs) c ≡ false
 unfolding is_walked
 walked_fence fs c = rw (le-ltb c c (omega arith), le-ltb (c + 256) c (omega arith)) refl
 
+-- the port takes a request as cached just where the equations do
 cached_by : (ss : List Switch) (fs : List ℕ) (c walk : ℕ) (fence enable : Bool) → enable ≡ enabled_at ss c
     → WalkMid fs c fence walk → (enable && nat_le 256 walk && not fence) ≡ is_cached ss fs c
 unfolding is_cached
@@ -94,6 +98,7 @@ unfolding none_between
 between_at [] c d h l = refl
 between_at (f ∷ fs) c d h l = rw (lt-ltb f c (omega (arith, l.0))) (between_at fs c (f + 1) (omega (arith, l.0)) l.1)
 
+-- a cached request begins without the mark of a FENCE.I
 unmarked : (ss : List Switch) (fs : List ℕ) (c walk : ℕ) (fence : Bool) → is_cached ss fs c ≡ true
     → WalkMid fs c fence walk → false ≡ not (none_between fs c (c + 1))
 unfolding is_cached
@@ -116,6 +121,7 @@ bare_answer k ss fs y t a e =
     ap (λ b. (request_by b (is_present fs y.fills (line_of a) t) (is_kept k fs y t a)
     (found_slot fs y.fills (line_of a) t) (victim fs y.fills (line_of a) t) k y t a).answer) e
 
+-- a miss answers in the cycle after that of its line's second word
 miss_answer : (k : Settings) (ss : List Switch) (fs : List ℕ) (y : Past) (t a : ℕ) → is_cached ss fs t ≡ true
     → is_present fs y.fills (line_of a) t ≡ false → (after_request k ss fs y t a).answer ≡ second_answer k y t + 1
 unfolding request_by
@@ -131,11 +137,13 @@ later_by k y t a false n m slot way = omega arith
 later_by k y t a true true m slot way = omega arith
 later_by k y t a true false m slot way = omega arith
 
+-- whatever it finds, no request answers in its own cycle
 request_later : (k : Settings) (ss : List Switch) (fs : List ℕ) (y : Past) (t a : ℕ)
     → t < (after_request k ss fs y t a).answer
 request_later k ss fs y t a = later_by k y t a (is_cached ss fs t) (is_present fs y.fills (line_of a) t)
     (is_kept k fs y t a) (found_slot fs y.fills (line_of a) t) (victim fs y.fills (line_of a) t)
 
+-- a request that is still at work after this cycle's answer answers in a later one
 wired_late : (s : Setup) (log : List Write) (ss : List Switch) (fs : List ℕ) (y : Past) (t a c : ℕ) (w : WordPort)
     (p : PortState) (tags lines : List ℕ) → Wired s log ss fs y t a c w p tags lines
     → c < (after_request (settings_of s) ss fs y t a).answer
@@ -167,6 +175,7 @@ wired_late s log ss fs y t a c w p tags lines (last b m d e u now f k) =
 fresh_addr : (base half : ℕ) → half < 2 → (4 * (base + 0) + 2 * half) % 2 ^ 32 / 4 * 4 ≡ 4 * ((base + 0) % 2 ^ 30)
 fresh_addr base half h = omega arith
 
+-- the word after word j is four bytes further, and address 0 comes after the last
 more_addr : (base j : ℕ) → (4 * ((base + j) % 2 ^ 30) / 4 * 4 + 4) % 2 ^ 32 ≡ 4 * ((base + suc j) % 2 ^ 30)
 more_addr base j = omega arith
 
@@ -177,15 +186,18 @@ request_busy : (f : Prefetch) → f.f_busy ≡ true → request_of f ≡ None
 unfolding request_of
 request_busy f e = ap (λ b. if not b && (f.f_fresh || nat_lt f.buf_count 3) then Some (next_addr f) else None) e
 
+-- with three words held, and one requested since the redirect, there is no room for more
 request_full : (f : Prefetch) → f.f_busy ≡ false → f.f_fresh ≡ false → nat_lt f.buf_count 3 ≡ false
     → request_of f ≡ None
 unfolding request_of
 request_full f e k n = ap₂ (λ b r. if not b && r then Some (next_addr f) else None) e (ap₂ (λ x y. x || y) k n)
 
+-- one test that holds is enough
 or_true : (a : Bool) → (a || true) ≡ true
 or_true true = refl
 or_true false = refl
 
+-- with no word outstanding and fewer than three held, the next one is requested
 request_room : (f : Prefetch) → f.f_busy ≡ false → nat_lt f.buf_count 3 ≡ true → request_of f ≡ Some (next_addr f)
 unfolding request_of
 request_room f e n =
@@ -266,6 +278,7 @@ is_free : (s : Setup) (log : List Write) (x : Stream) (q c : ℕ) (busy : Bool) 
 is_free s log x q c busy w p tags lines e (free b d i k z) = record { rests_ = d; port = i; cache = k; done = z }
 is_free s log x q c busy w p tags lines e (pending y t a work) = let no_ : true ≡ false = sym a.is_busy ∙ e in cc
 
+-- with no word outstanding, those held and taken are all that were requested, and none is to be dropped
 count_free : (q m count : ℕ) (busy drop : Bool) → busy ≡ false → Count q m busy drop count
     → (count + m ≡ q) × (drop ≡ false)
 count_free q m count busy drop e (rest b d k) = (k, d)
@@ -408,6 +421,7 @@ issue_room s log x half q c walk fence enable next f w p tags lines u still =
     not_zero zero h = absurd (omega arith)
     not_zero (suc q) h = refl
 
+-- what is due is requested, whether a word is outstanding or not
 issue_by : (s : Setup) (log : List Write) (x : Stream) (half q c walk : ℕ) (fence enable next : Bool) (f : Prefetch)
     (w : WordPort) (p : PortState) (tags lines : List ℕ) (b : Bool)
     → AfterAnswer s log x half q c walk fence enable next f w p tags lines → f.f_busy ≡ b
@@ -422,6 +436,7 @@ issue_by s log x half q c walk fence enable next f w p tags lines true u busy_ =
           (is_rest (doing_of w.c_state)) (enable && nat_le 256 walk && not fence) refl refl,
     )
 
+-- so the issue of every cycle leaves the words as after the request
 pub fetch_issues : (s : Setup) → FetchIssues s
 fetch_issues s log x half q c walk fence enable next f w p tags lines u =
     issue_by s log x half q c walk fence enable next f w p tags lines f.f_busy u refl

@@ -41,10 +41,12 @@ next_is s st r = ap (λ f. next_from
     (cycle_with (sight_in s st) (effect_in s st) (ans_of st.main.words st.iport st.tags st.lines) f st.main
     (in_of s st)) (in_of s st) st) r
 
+-- the event that a step shows is that of its effect, at the cycle's number
 happens_is : (s : Setup) (st : System) → (shown_of s st).happens ≡ happens_at st.cycle (effect_in s st).happens
 unfolding shown_of core_out_by cycle_of cycle_with
 happens_is s st = refl
 
+-- the wires of the fetch port are those of the word port after the issue
 fetch_is : (s : Setup) (st : System) → Receives st (effect_in s st)
     → (shown_of s st).fetch ≡ fetch_wires_in st (effect_in s st)
 unfolding shown_of core_out_by cycle_of cycle_with wires_of in_of
@@ -52,6 +54,7 @@ fetch_is s st r = ap (λ f. (core_out_by
     (cycle_with (sight_in s st) (effect_in s st) (ans_of st.main.words st.iport st.tags st.lines) f st.main
     (in_of s st)) st.main (in_of s st)).fetch) r
 
+-- the wires of the data port are those that the load-store unit drives
 load_store_is : (s : Setup) (st : System) → (shown_of s st).load_store ≡ (sight_in s st).ls.req
 unfolding shown_of core_out_by cycle_of cycle_with
 load_store_is s st = refl
@@ -94,13 +97,14 @@ outcome s ph ok limit h st less (off t q adm done happens m) =
     (received_in s limit (continued s limit t h) None q st (sight_in s st) (effect_in s st) m)
     (goes_on s ph ok limit (continued s limit t h) None q st (sight_in s st) (effect_in s st) less m))
 
+-- so a step from the invariant keeps the story, or ends one item and goes to the next story
 pub step : (s : Setup) → Phases s → IsPlaced s → (limit : ℕ) (h : Story) (o : Option ℕ) (q : ℕ) (st : System)
     → st.cycle < limit → Inv s limit h o q st → Outcome s limit h st
 step s ph ok limit h o q st less i = outcome s ph ok limit h st less (after_done s ph ok limit h o q st less i)
 
 -- ---- an item isn't done before its time
 
--- a search doesn't end before it begins, nor an item before its portions' answers
+-- a search doesn't end before it begins
 pub first_not_before : (n : ℕ) (test : ℕ → Bool) (c : ℕ) → c ≤ first_from n test c
 unfolding first_from
 first_not_before zero test c = omega arith
@@ -110,6 +114,7 @@ first_not_before (suc n) test c =
       | false ↦ omega (arith, first_not_before n test (c + 1))
     ]
 
+-- no item is done before the answer of a portion that it reaches
 pub reached_late : (ws : List Wait) (portions : Portions) (n e stop : ℕ) (b : Bool) → reaches portions b ≡ true
     → portion_answer ws n e b ≤ done_by ws portions n e stop
 unfolding done_by answer_time grant_time
@@ -123,16 +128,19 @@ reached_late ws Two n e stop true r = omega arith
 reached_late ws TwoBad n e stop false r = omega arith
 reached_late ws TwoBad n e stop true r = omega arith
 
+-- an access whose last portion is an error is done in the cycle after that answer
 pub failed_done : (ws : List Wait) (n e stop : ℕ) (b : Bool)
     → done_by ws (fails b) n e stop ≡ portion_answer ws n e b + 1
 unfolding done_by
 failed_done ws n e stop false = refl
 failed_done ws n e stop true = refl
 
+-- an item without a portion is done where its search stops
 pub plain_done : (ws : List Wait) (n e stop : ℕ) → done_by ws NoPortion n e stop ≡ stop
 unfolding done_by
 plain_done ws n e stop = refl
 
+-- by its portions no item is done before its admission, if its search doesn't stop before it
 enters_late : (ws : List Wait) (portions : Portions) (n t stop : ℕ) → t ≤ stop → t ≤ done_by ws portions n (t + 1) stop
 unfolding done_by answer_time grant_time
 enters_late ws NoPortion n t stop h = h
@@ -151,7 +159,7 @@ pub done_is : (s : Setup) (limit t : ℕ) (h : Story)
 unfolding done_of
 done_is s limit t h = refl
 
--- so an item in the stage isn't done before this cycle: by its admission, its portions and its unit
+-- so no item is done before its admission
 admitted_before : (s : Setup) (limit t : ℕ) (h : Story) → t ≤ done_at s limit t h
 admitted_before s limit t h =
     omega (
@@ -165,6 +173,7 @@ admitted_before s limit t h =
           )),
     )
 
+-- while the answer of a portion is to come, its item isn't done
 portion_late : (s : Setup) (limit t c : ℕ) (h : Story) (w : Access) (b : Bool) → Portion s t h w b
     → c ≤ answer_at s t h b → c ≤ done_at s limit t h
 portion_late s limit t c h w b r late =
@@ -175,6 +184,7 @@ portion_late s limit t c h w b r late =
       reached_late s.plan.dwaits (item_at s t h).portions h.times.made (t + 1) (stop_at s limit t h) b r.reached,
     )
 
+-- in each state of the load-store unit the item isn't done before this cycle
 ls_late : (s : Setup) (limit t c : ℕ) (h : Story) (ls : Lsu) (p : PortState) → Running s limit t h c
     → LsAt s t h c ls p → c ≤ done_at s limit t h
 unfolding answer_time grant_time
@@ -199,6 +209,7 @@ ls_late s limit t c h ls p running (failed b e k at i) =
       failed_done s.plan.dwaits h.times.made (t + 1) (stop_at s limit t h) b,
     )
 
+-- so the next done is in this cycle or later, with an item in the stage or without
 pub not_before : (s : Setup) (limit : ℕ) (h : Story) (o : Option ℕ) (c : ℕ) (id : IdState) (md : MulDivUnit) (ls : Lsu)
     (p : PortState) → StageAt s limit h o c id md ls p
     → c ≤ done_at s limit (admission s limit h) h
@@ -252,10 +263,12 @@ run_more : (s : Setup) (n : ℕ) (st : System) (o : Option Event) → (shown_of 
 unfolding run
 run_more s n st o e = ap (λ v. adds_event v (run s n (system_next s st))) e ∙ adds o (run s n (system_next s st))
 
+-- a step moves the cycle's number by one
 pub next_cycle : (s : Setup) (st : System) → (system_next s st).cycle ≡ st.cycle + 1
 unfolding system_next system_by
 next_cycle s st = refl
 
+-- one step more is a step in front of the others
 steps_more : (s : Setup) (n : ℕ) (st : System) → steps s (suc n) st ≡ steps s n (system_next s st)
 unfolding steps
 steps_more s n st = refl
@@ -271,6 +284,7 @@ agree_end s limit fuel h o q st i late =
           subst (λ y. Kept s limit y st) (sym (ap (λ (r : Told). r.story) (no_more s limit fuel h late))) (o, (q, i));
     }
 
+-- a step without an event in front of a run adds nothing to what is told
 agree_silent : (s : Setup) (limit n fuel : ℕ) (h : Story) (st : System) → (shown_of s st).happens ≡ None
     → Agrees s limit n fuel h (system_next s st) → Agrees s limit (suc n) fuel h st
 agree_silent s limit n fuel h st none a =
@@ -279,6 +293,7 @@ agree_silent s limit n fuel h st none a =
       kept = subst (λ x. Kept s limit (told s limit fuel h).story x) (sym (steps_more s n st)) a.kept;
     }
 
+-- a step with an event in front of a run tells one item more, before the others
 agree_ended : (s : Setup) (limit n fuel t : ℕ) (h : Story) (st : System) → admission s limit h ≡ t
     → done_at s limit t h < limit → (shown_of s st).happens ≡ event_at s limit t h
     → Agrees s limit n fuel (continued s limit t h) (system_next s st) → Agrees s limit (suc n) (suc fuel) h st

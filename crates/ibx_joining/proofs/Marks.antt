@@ -39,6 +39,7 @@ held_low q m count i busy drop (rest b d e) h = omega (arith, e)
 held_low q m count i busy drop (coming b d e) h = omega (arith, e)
 held_low q m count i busy drop (dropped b d e n z) h = absurd (omega (arith, n))
 
+-- where no word is outstanding the last one that was requested has answered
 link_done : (s : Setup) (log : List Write) (x : Stream) (q c e : ℕ) (busy : Bool) (w : WordPort) (p : PortState)
     (tags lines : List ℕ) → busy ≡ false → (c ≡ 0 → (past (settings_of s) x q).answer ≡ 0)
     → Link s log x q c e busy w p tags lines → (past (settings_of s) x q).answer ≤ c
@@ -115,11 +116,13 @@ work_switched s log ss v fs y t a c e w p tags lines h (second_waits b m d x i k
 work_switched s log ss v fs y t a c e w p tags lines h (last b m d x u z i k) =
     last (cached_switched (settings_of s) ss fs v t h ∙ b) m d x u z i k
 
+-- a switch leaves the address of the last request
 last_switched : (x : Stream) (v : Switch) (q : ℕ) → last_of (switched_by x v) q ≡ last_of x q
 unfolding last_of
 last_switched x v zero = refl
 last_switched x v (suc j) = refl
 
+-- the last request came in the same cycle, after the same past, with the switch as without
 origin_switched : (k : Settings) (x : Stream) (c q : ℕ) (v : Switch) → IsRequested k x c q → c ≤ v.time → (n : ℕ)
     → n ≤ q → (y : Past) (t : ℕ) → Origin k x n y t → Origin k (switched_by x v) n y t
 origin_switched k x c q v r late zero low y t o = tt
@@ -128,6 +131,7 @@ origin_switched k x c q v r late (suc j) low y t o = (
   o.1 ∙ sym (issue_switched k x c q v r late j (omega arith)),
 )
 
+-- so the last word request stands in the stream with the switch as in the one without
 link_switched : (s : Setup) (log : List Write) (x : Stream) (q c e : ℕ) (busy : Bool) (w : WordPort) (p : PortState)
     (tags lines : List ℕ) (v : Switch) → IsRequested (settings_of s) x c q → c ≤ v.time
     → Link s log x q c e busy w p tags lines → Link s log (switched_by x v) q c e busy w p tags lines
@@ -214,6 +218,7 @@ tag_fenced fs c None = refl
 tag_fenced fs c (Some x) =
     ap (λ b. if b then 2 ^ 21 + x.line / 256 else 0) (between_unseen fs c x.time c (omega arith))
 
+-- so the cache's words are those of the log with this FENCE.I, until the walk begins anew
 fenced_cached : (s : Setup) (log : List Write) (fs : List ℕ) (fills : List Fill) (c : ℕ) (w : WordPort)
     (tags lines : List ℕ) → Cached s log fs fills c c w tags lines → Cached s log (c ∷ fs) fills c (c + 1) w tags lines
 fenced_cached s log fs fills c w tags lines k =
@@ -236,6 +241,7 @@ broken : (fs : List ℕ) (t c : ℕ) → t ≤ c → none_between (c ∷ fs) t (
 unfolding none_between
 broken fs t c h = rw (le-ltb c t h, lt-leb (c + 1) c (omega arith)) refl
 
+-- the mark of a port that is at work says that a FENCE.I came since its request
 nostore_fenced : (fs : List ℕ) (t c : ℕ) (g : Doing) (n : Bool) → t ≤ c → is_rest g ≡ false
     → (not (is_rest g) && (n || true)) ≡ not (none_between (c ∷ fs) t (c + 1))
 nostore_fenced fs t c g n h r = by (is_rest g) n r ∙ sym (ap not (broken fs t c h))
@@ -245,6 +251,7 @@ nostore_fenced fs t c g n h r = by (is_rest g) n r ∙ sym (ap not (broken fs t 
     by false true e = refl
     by false false e = refl
 
+-- so a miss that a FENCE.I finds outstanding won't be stored
 missed_fenced : (k : Settings) (fs : List ℕ) (y : Past) (t a c e : ℕ) (w : WordPort) → t < c
     → is_rest (doing_of w.c_state) ≡ false → Missed fs y t a e w → Missed (c ∷ fs) y t a (c + 1) (marked true w)
 missed_fenced k fs y t a c e w h r m =
@@ -297,6 +304,7 @@ work_fenced s log ss fs y t a c w p tags lines h (last b m d x u z i k) =
     (subst (λ l. Cached s log (c ∷ fs) l c (c + 1) w tags lines) (sym (filled_fenced (settings_of s) fs y t a c h z))
     (fenced_cached s log fs (filled (settings_of s) fs y t a) c w tags lines k))
 
+-- the last word request stands in the stream with the FENCE.I, outstanding or not
 link_fenced : (s : Setup) (log : List Write) (x : Stream) (j c : ℕ) (busy : Bool) (w : WordPort) (p : PortState)
     (tags lines : List ℕ) → IsRequested (settings_of s) x c (suc j)
     → Link s log x (suc j) c c busy w p tags lines
@@ -327,6 +335,7 @@ link_fenced s log x j c busy w p tags lines r (pending y t a work) =
       low = a.low;
     }) (work_fenced s log x.switches x.fences y t (word_addr x j) c w p tags lines a.early work)
 
+-- a FENCE.I changes none of the words that the buffer holds
 fenced_fetch : (s : Setup) (log : List Write) (x : Stream) (half j c : ℕ) (f : Prefetch)
     → IsRequested (settings_of s) x c (suc j)
     → ((i : ℕ) → i < f.buf_count → (past (settings_of s) x (suc (length x.enters + i))).answer ≤ c)

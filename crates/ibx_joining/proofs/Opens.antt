@@ -57,6 +57,7 @@ unfolding image_words
 words_count image a zero = refl
 words_count image a (suc n) = omega (arith, words_count image (a + 4) n)
 
+-- word i of them is the codeword of the image's word at its address
 words_are : (image : Placed) (a n i : ℕ) → i < n
     → slice_index (image_words image a n) i ≡ encode_of 32 7 (image_word image (a + 4 * i))
 unfolding image_words
@@ -65,6 +66,7 @@ words_are image a (suc n) zero h = ap (λ x. encode_of 32 7 (image_word image x)
 words_are image a (suc n) (suc i) h =
     words_are image (a + 4) n i (omega arith) ∙ ap (λ x. encode_of 32 7 (image_word image x)) (omega arith)
 
+-- a byte of RAM at reset is the image's byte there
 byte_is : (image : Placed) (a : ℕ) → ram_has image.ram a ≡ true → a < 2 ^ 32
     → read_byte (image_memory image) (a % 2 ^ 32) ≡ image_byte image a
 unfolding image_memory
@@ -72,15 +74,17 @@ byte_is image a has low = subst (λ x.
     (if ram_has image.ram x then (if ram_has image.ram x then image_byte image x else 0) else 0) ≡ image_byte image a)
     (sym (mod-eq_of_lt low)) (rw has refl)
 
--- so memory holds the image
+-- an address from RAM's base on and below its end is in RAM
 in_ram : (ram : Ram) (a : ℕ) → ram.base ≤ a → a < ram.base + ram.size → ram_has ram a ≡ true
 in_ram ram a low high = rw (le-leb ram.base a low, lt-ltb a (ram.base + ram.size) high) refl
 
+-- four bytes make a word, the lowest first
 bytes_are : (f : ℕ → ℕ) (a b c d : ℕ) → f 0 ≡ a → f 1 ≡ b → f 2 ≡ c → f 3 ≡ d
     → bytes_number f 4 ≡ a + 256 * b + 256 ^ 2 * c + 256 ^ 3 * d
 unfolding bytes_number
 bytes_are f a b c d p q r e = omega (arith, p, q, r, e)
 
+-- a word of the image is what memory reads at its address
 word_is : (image : Placed) (a : ℕ) → image.ram.base ≤ a → a + 3 < image.ram.base + image.ram.size
     → image.ram.base + image.ram.size ≤ 2 ^ 32 → image_word image a ≡ read_bytes (image_memory image) a 4
 word_is image a low high fits =
@@ -91,6 +95,7 @@ word_is image a low high fits =
     (image_byte image (a + 3)) (at 0 (omega arith) ∙ ap (image_byte image) (omega arith)) (at 1 (omega arith))
     (at 2 (omega arith)) (at 3 (omega arith)))
 
+-- so memory at reset holds the image
 holds_image : (s : Setup) → IsPlaced s → HoldsMemory s.image.ram (first_system s).mem (image_memory s.image)
 unfolding first_system
 holds_image s ok =
@@ -114,6 +119,7 @@ unfolding place_of
 place_zero [] = refl
 place_zero (w ∷ ws) = sym (zero-mod (length (w ∷ ws)))
 
+-- a new port is idle, with its first transaction to come
 idle_port : (ws : List Wait) → Idle ws 0 (new_port ws)
 idle_port ws = record { list = refl; busy = refl; waited = refl; place = place_zero ws }
 
@@ -126,14 +132,17 @@ tag_code : IsCode 22 6 0xa800000
 unfolding encode_of checks column columns numbers_of_weight weight
 tag_code = record { payload = 0; low = omega arith; is_code = refl }
 
+-- the data word that an empty cache holds is a codeword
 word_code : IsCode 32 7 0x2a00000000
 unfolding encode_of checks column columns numbers_of_weight weight
 word_code = record { payload = 0; low = omega arith; is_code = refl }
 
+-- without a fill no place has a last one
 no_fill : (n : ℕ) (x : Fill) {P : Type 0} → last_fill [] n ≡ Some x → P
 unfolding last_fill
 no_fill n x e = cc
 
+-- so the cache at reset is one that no line was stored in, before the walk clears a set
 empty_cache : (s : Setup) (log : List Write)
     → CacheAt s log [] [] 0 0 0 false (replicate 512 0xa800000) (replicate 1024 0x2a00000000)
 unfolding last_fill
@@ -185,6 +194,7 @@ unfolding admission first_times
 first_stage s limit =
     record { id_is = refl; md_is = refl; ls_is = refl; idle = idle_port s.plan.dwaits; search = refl }
 
+-- the fetch side at reset has no word requested and an empty cache that is off
 first_words : (s : Setup) → IsPlaced s
     → Words s (opening s) 0 0 false (fetch_reset s.image.entry) port_reset (new_port s.plan.iwaits)
     (replicate 512 0xa800000) (replicate 1024 0x2a00000000)
@@ -216,6 +226,7 @@ first_words s ok =
       sent = tt;
     }
 
+-- each CSR that is kept twice has its complement at reset
 first_complements : (entry : ℕ) → Complemented (csrs_reset entry)
 unfolding csrs_reset
 first_complements entry = record {
@@ -225,14 +236,17 @@ first_complements entry = record {
   high = (refl, (refl, (refl, (refl, (refl, (refl, (refl, (refl, tt))))))));
 }
 
+-- the CSRs at reset have the values of the architecture's reset
 first_values : (s : Setup) → values (csrs_reset s.image.entry) ≡ (at_cycle (reset_state s.image) 0).csrs
 unfolding values csrs_reset reset_state csr_reset counters_after
 first_values s = refl
 
+-- the register file at reset has the codewords of the architecture's registers
 first_regs : (s : Setup) → replicate 32 0x2a00000000 ≡ map (encode_of 32 7) (reset_state s.image).regs
 unfolding reset_state encode_of checks column columns numbers_of_weight weight
 first_regs s = refl
 
+-- so registers, program counter and CSRs at reset are those of the first state
 first_tied : (s : Setup) → IsPlaced s
     → Tied s (opening s) 0 s.image.entry (csrs_reset s.image.entry) (replicate 32 0x2a00000000)
 unfolding first_times reset_state csr_reset
@@ -253,6 +267,7 @@ unfolding image_memory
 byte_low s a ok = elim (ram_has s.image.ram a) as (λ b. (if b then image_byte s.image a else 0) < 256)
     [ true ↦ ok.bytes a | false ↦ omega arith ]
 
+-- the handlers' address that reset takes from the entry is a word
 mtvec_low : (entry : ℕ) → kept_mtvec entry < 2 ^ 32
 mtvec_low entry = legal-low Mtvec entry
 

@@ -106,11 +106,13 @@ over_admits (Trap portion) head e lines k = refl
 over_admits Irq head e lines k = refl
 over_admits Dummy head e lines k = refl
 
+-- an item that is held takes no parcel, and leaves the dummies as the effects say
 pub hold_admits : (turn : Turn) (next : IdState) (head : Head) (e : Effect) (lines : ℕ) → turn ≡ Hold next
     → admits_by turn head e lines ≡ record { id = next; taken = 0; dummies = e.dummies }
 unfolding admits_by
 hold_admits turn next head e lines k = ap (λ t. admits_by t head e lines) k
 
+-- the multiplier is idle once the stage is empty
 pub over_md : (turn : Turn) (md : MulDivUnit) → is_over turn ≡ true → md_next turn md ≡ md_idle
 over_md Idle md k = refl
 over_md (Hold next) md k = let no_ : false ≡ true = k in cc
@@ -127,6 +129,7 @@ ending_over_by false true c redirect = refl
 ending_over_by false false true redirect = refl
 ending_over_by false false false redirect = refl
 
+-- whatever the item was, its last turn leaves the stage empty
 pub ending_over : (kind : Kind) (phase : ℕ) (redirect : Bool) → is_over (ending kind phase redirect) ≡ true
 ending_over (AnInterrupt number) phase redirect = refl
 ending_over ADummy phase redirect = refl
@@ -157,6 +160,7 @@ unfolding memory_at
 late_unseen memory [] ws c l = refl
 late_unseen memory (w ∷ front) ws c l = rw (le-ltb w.time c l.0) (late_unseen memory front ws c l.1)
 
+-- so a log that grows by such writes gives the same memory in this cycle
 pub grows_unseen : (memory : Memory) (old more : List Write) (c : ℕ) → Grows old more c
     → memory_at memory more c ≡ memory_at memory old c
 grows_unseen memory old more c g = ap (λ ws. memory_at memory ws c) g.joined ∙ late_unseen memory g.front old c g.late

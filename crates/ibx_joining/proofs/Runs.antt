@@ -38,6 +38,7 @@ first_cycle : (s : Setup) → (first_system s).cycle ≡ 0
 unfolding first_system
 first_cycle s = refl
 
+-- n steps move the cycle's number by n
 steps_cycle : (s : Setup) (n : ℕ) (st : System) → (steps s n st).cycle ≡ st.cycle + n
 unfolding steps system_next system_by
 steps_cycle s zero st = omega arith
@@ -111,6 +112,7 @@ staged_is s c h (Some t) id md ls p f =
     by : (b : Bool) (k l m n u v : ℕ) → b ≡ true → k ≡ l → m ≡ n → u ≡ v → made b k m u ≡ made true l n v
     by b k l m n u v e f g i = cc
 
+-- with the invariant the fields show what the history says of the cycle
 shows_by : (s : Setup) (c : ℕ) (h : Story) (o : Option ℕ) (q : ℕ) (st : System) → Inv s c h o q st → st.cycle ≡ c
     → StageAt s c h o c st.main.id st.main.md st.main.ls st.dport → shown_in st.main ≡ shown_at s c h (open_item s c h)
 unfolding shown_at
@@ -147,7 +149,7 @@ shows_history s ph ok c low =
 
 -- ---- the words
 
--- the buffer and the cache hold the words of the history, before each cycle
+-- with the invariant the registers and the words of RAM are the codewords of the history's values
 holds_by : (s : Setup) (c : ℕ) (h : Story) (o : Option ℕ) (q : ℕ) (st : System) → Inv s c h o q st → st.cycle ≡ c
     → open_item s c h ≡ o → HoldsWords s c st h (with_item s h (open_item s c h))
 holds_by s c h o q st i at same =
@@ -156,6 +158,7 @@ holds_by s c h o q st i at same =
     (subst (λ z. MemoryAt s (with_item s h z) st.cycle st.mem) (sym same) i.memory) in
     record { regs = i.tied.regs_are; words = λ n low. memory.words n (omega (arith, low, memory.size)) }
 
+-- so they are before each cycle of a run from reset
 pub holds_values : (s : Setup) → Phases s → IsPlaced s → HoldsValues s
 holds_values s ph ok c low =
     let b : Before s c (told_below s c).story (system_at s c) = before s ph ok c in
@@ -195,6 +198,7 @@ quiet_by s ph ok limit h o q st i =
     (ph.stage_quiet limit h o st.cycle st.main.id st.main.md st.main.ls st.dport i.state i.stage)
     arch.0 arch.1 arch.2
 
+-- so no cycle of a run from reset raises an alert
 pub is_quiet : (s : Setup) → Phases s → IsPlaced s → IsQuiet s
 is_quiet s ph ok c low =
     let b : Before s c (told_below s c).story (system_at s c) = before s ph ok c in
@@ -219,6 +223,7 @@ line_by s limit c h o u q v x e f a b = (
   b ∙ ap (λ z. wires_at (with_item s h z).sent c) (sym e),
 )
 
+-- a step's wires are those of the history, by the invariant that follows it
 line_is : (s : Setup) (limit c : ℕ) (h : Story) (x : Display) (st : System) → st.cycle ≡ limit
     → Follows s limit h c x.fetch x.load_store st → LineIs s limit c h x
 line_is s limit c h x st at f =

@@ -700,6 +700,7 @@ mixed = record {
   };
 }
 
+-- no fact fails in 60 cycles with waits of both ports
 mixed_is : walk mixed 900 60 (opening mixed) (first_system mixed) ≡ []
 unfolding wires_at bus_line story_after ctl_after dummy_word dummy_cost brought_parcels step_with words_there admission
     item_at access_at taken continued event_at told up_to_halt retired_item item_of dummy_item memory_at written_by
@@ -792,6 +793,7 @@ errors = record {
   };
 }
 
+-- no fact fails in 150 cycles with the single-cycle multiplier and an interrupt line from cycle 100 on
 errors_is : walk errors 900 150 (opening errors) (first_system errors) ≡ []
 unfolding wires_at bus_line story_after ctl_after dummy_word dummy_cost brought_parcels step_with words_there admission
     item_at access_at taken continued event_at told up_to_halt retired_item item_of dummy_item memory_at written_by
@@ -850,6 +852,7 @@ ways = record {
   plan = record { iwaits = wait 1 1 ∷ wait 0 0 ∷ []; dwaits = []; changes = []; flip = None };
 }
 
+-- no fact fails in 330 cycles with lines in both ways of the cache and a FENCE.I
 ways_is : walk ways 900 330 (opening ways) (first_system ways) ≡ []
 unfolding wires_at bus_line story_after ctl_after dummy_word dummy_cost brought_parcels step_with words_there admission
     item_at access_at taken continued event_at told up_to_halt retired_item item_of dummy_item memory_at written_by

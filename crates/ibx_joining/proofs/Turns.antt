@@ -33,6 +33,7 @@ pub granted_later : (sent : List Transaction) (c d : ℕ) → c ≤ d → AreGra
 granted_later [] c d h g = tt
 granted_later (x ∷ sent) c d h g = (omega (arith, g.0), granted_later sent c d h g.1)
 
+-- a request's transactions, and those before it, are granted before it answers
 request_sent : (k : Settings) (y : Past) (t a : ℕ) (b n m : Bool) (slot : ℕ) (way : Bool) → y.answer ≤ t → IsSent y
     → IsSent (request_by b n m slot way k y t a)
 unfolding request_by answer_time grant_time
@@ -42,6 +43,7 @@ request_sent k y t a true true m slot way h g = granted_later y.sent y.answer (t
 request_sent k y t a true false m slot way h g =
     (omega arith, (omega arith, granted_later y.sent y.answer (second_answer k y t + 1) (omega arith) g))
 
+-- so one word more keeps every grant before the last answer
 sent_by : (k : Settings) (x : Stream) (j : ℕ) → IsSent (past k x j) → IsSent (past k x (suc j))
 sent_by k x j g =
     let t : ℕ = issue k x j in
@@ -52,6 +54,7 @@ sent_by k x j g =
     (is_kept k x.fences y t a) (found_slot x.fences y.fills (line_of a) t)
     (victim x.fences y.fills (line_of a) t) (omega (arith, issue_is k x j)) g)
 
+-- so all transactions of a stream's words are granted before the last of these has answered
 pub past_sent : (k : Settings) (x : Stream) (j : ℕ) → IsSent x.before → IsSent (past k x j)
 unfolding past
 past_sent k x zero g = g
@@ -76,6 +79,7 @@ none_left : (b : Bool) → Count 0 0 b b 0
 none_left true = dropped refl refl refl refl refl
 none_left false = rest refl refl refl
 
+-- what holds back the first words of a new stream is no later than the redirect
 fresh_past : (c base end_ : ℕ) (before : Past) (fs : List ℕ) (ss : List Switch)
     → IsPast (record { start = c; base = base; before = before; last = end_; enters = []; fences = fs; switches = ss })
     c
@@ -154,6 +158,7 @@ restarted s log x half q c target fence enable next f w p tags lines v even low 
       sent = past_sent (settings_of s) x q v.sent;
     }
 
+-- so a redirect leaves the words of the stream that the history begins there
 pub fetch_turns : (s : Setup) → FetchTurns s
 unfolding redirected
 fetch_turns s log x half q c target fence enable next f w p tags lines v even low =
@@ -169,6 +174,7 @@ pub log_more : (fs : List ℕ) (c d : ℕ) → c ≤ d → IsLog fs c → IsLog 
 log_more [] c d h l = tt
 log_more (f ∷ fs) c d h l = (omega (arith, l.0), l.1)
 
+-- where all FENCE.Is are before this cycle, one cycle more leaves a span as free of them as it was
 pub between_more : (fs : List ℕ) (a c : ℕ) → IsLog fs c → none_between fs a c ≡ none_between fs a (c + 1)
 unfolding none_between
 between_more [] a c l = refl
@@ -176,10 +182,12 @@ between_more (f ∷ fs) a c l =
     rw (lt-leb c f l.0, lt-leb (c + 1) f (omega (arith, l.0)))
     (ap (λ b. (nat_lt f a || false) && b) (between_more fs a c (log_more fs (f + 1) c (omega (arith, l.0)) l.1)))
 
+-- fills that were stored before a cycle were stored before the next one
 pub old_more : (fills : List Fill) (c : ℕ) → IsOld fills c → IsOld fills (c + 1)
 old_more [] c l = tt
 old_more (x ∷ fills) c l = (omega (arith, l.0), l.1, l.2, l.3, old_more fills c l.4)
 
+-- the cache of lines stored before this cycle is one of lines stored before the next
 pub still_cached : (s : Setup) (log : List Write) (fs : List ℕ) (fills : List Fill) (c : ℕ) (w : WordPort)
     (tags lines : List ℕ) → Cached s log fs fills c c w tags lines → Cached s log fs fills c (c + 1) w tags lines
 still_cached s log fs fills c w tags lines k =
@@ -216,6 +224,7 @@ missed_still fs y t a c w l r m = record {
   nostore = nostore_still fs t c (doing_of w.c_state) w.c_nostore l r m.nostore;
 }
 
+-- without a FENCE.I in this cycle an outstanding request is at work as before
 work_still : (s : Setup) (log : List Write) (ss : List Switch) (fs : List ℕ) (y : Past) (t a c : ℕ) (w : WordPort)
     (p : PortState) (tags lines : List ℕ) → IsLog fs c
     → Work s log ss fs y t a c c w p tags lines → Work s log ss fs y t a c (c + 1) (marked false w) p tags lines
@@ -238,6 +247,7 @@ work_still s log ss fs y t a c w p tags lines l (second_waits b m d x i k) =
 work_still s log ss fs y t a c w p tags lines l (last b m d x u v i k) =
     last b m d x u v i (still_cached s log fs (filled (settings_of s) fs y t a) c w tags lines k)
 
+-- without a FENCE.I in this cycle the last word request stands as before, outstanding or not
 pub link_still : (s : Setup) (log : List Write) (x : Stream) (q c : ℕ) (busy : Bool) (w : WordPort) (p : PortState)
     (tags lines : List ℕ) → IsLog x.fences c
     → Link s log x q c c busy w p tags lines → Link s log x q c (c + 1) busy (marked false w) p tags lines
@@ -262,6 +272,7 @@ pub recent_more : (ss : List Switch) (c : ℕ) → IsRecent ss c → IsRecent ss
 recent_more [] c r = tt
 recent_more (w ∷ ss) c r = (omega (arith, r.0), recent_more ss c r.1)
 
+-- a cycle without a switch leaves the enable bit
 pub enabled_still : (ss : List Switch) (c : ℕ) → IsRecent ss c → enabled_at ss c ≡ enabled_at ss (c + 1)
 unfolding enabled_at
 enabled_still [] c r = refl

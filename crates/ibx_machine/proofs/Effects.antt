@@ -40,16 +40,19 @@ pub record Tied (st : State) (c word : ℕ) (mem : Option Access) (ops : Option 
     pub access : g.access ≡ mem
     pub same_ops : ops_in x g ≡ ops
 
+-- the counters among the core's fields move as those of the architecture
 tick_is : (s : Csrs) (retired : Bool) (wrote : Option ℕ) → values (tick_of s retired wrote) ≡ csr_tick (values s)
     retired wrote
 unfolding values tick_of csr_tick
 tick_is s retired wrote = refl
 
+-- the core's write of rd leaves the registers as the architecture's does, all of them for x0
 writes_is : (regs : List ℕ) (rd value : ℕ) (b : Bool) → with_write (if b then None else Some (rd, value)) regs ≡
     (if b then regs else slice_set regs rd value)
 writes_is regs rd value true = refl
 writes_is regs rd value false = refl
 
+-- a retirement that only writes rd and goes to the next address is the architecture's plain one
 plain_is : (st : State) (c word : ℕ) (ops : Option (ℕ × ℕ)) (x : Core) (g : Sight) (redirect : Bool)
     (rd value next : ℕ) → Tied st c word None ops x g → Agrees c st.regs (retires x g redirect rd value None next
     (ticked x)) (finished st.pc st.regs c word ops (plain (at_cycle st c) rd value next))
@@ -72,6 +75,7 @@ plain_is st c word ops x g redirect rd value next t =
 
 -- ---- by row
 
+-- an operation on two registers retires as in the architecture
 alu_is : (st : State) (c word length lines : ℕ) (ops : Option (ℕ × ℕ)) (x : Core) (g : Sight) (i : In)
     (redirect : Bool) (op : AluOp) (rd rs1 rs2 : ℕ) → Tied st c word None ops x g → g.a ≡ reg st rs1 → g.b ≡ reg st rs2
     → next_of x ≡ following st length → Agrees c st.regs (retired_by (Some (Alu op rd rs1 rs2)) redirect x g i)
@@ -85,6 +89,7 @@ alu_is st c word length lines ops x g i redirect op rd rs1 rs2 t ea eb en =
     (subst (λ v. P v (following st length)) (sym (ap₂ (λ a b. alu_of op a b) ea eb))
     (plain_is st c word ops x g redirect rd (alu_of op (reg st rs1) (reg st rs2)) (following st length) t))
 
+-- LUI retires as in the architecture, with its immediate as the value
 lui_is : (st : State) (c word length lines : ℕ) (ops : Option (ℕ × ℕ)) (x : Core) (g : Sight) (i : In)
     (redirect : Bool) (rd imm : ℕ) → Tied st c word None ops x g → next_of x ≡ following st length → Agrees c st.regs
     (retired_by (Some (Lui rd imm)) redirect x g i) (finished st.pc st.regs c word ops

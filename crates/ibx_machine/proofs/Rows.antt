@@ -104,6 +104,7 @@ row1_setup = record {
   plan = record { iwaits = []; dwaits = []; changes = []; flip = None };
 }
 
+-- without waits an instruction retires in each cycle from 2 on, and a store takes one cycle more
 row1 : run row1_setup 7 (first_system row1_setup) ≡ Retire 2 0x100080 0x20337 6 0x20000 None None (Some (0x0, 0x0)) ∷
     Retire 3 0x100084 0x100393 7 0x1 None None (Some (0x0, 0x0)) ∷ Retire 5 0x100088 0x732423 0 0x0
     (Some (record { addr = 0x20008; size = 4; store = true; value = 0x1 })) None (Some (0x20000, 0x1)) ∷ []
@@ -149,6 +150,7 @@ row2_setup = record {
   plan = record { iwaits = wait 1 0 ∷ []; dwaits = []; changes = []; flip = None };
 }
 
+-- where each fetch is granted a cycle late, an instruction enters every other cycle
 row2 : run row2_setup 9 (first_system row2_setup) ≡ Retire 3 0x100080 0x20337 6 0x20000 None None (Some (0x0, 0x0)) ∷
     Retire 5 0x100084 0x100393 7 0x1 None None (Some (0x0, 0x0)) ∷ Retire 8 0x100088 0x732423 0 0x0
     (Some (record { addr = 0x20008; size = 4; store = true; value = 0x1 })) None (Some (0x20000, 0x1)) ∷ []
@@ -198,6 +200,7 @@ row4_setup = record {
   plan = record { iwaits = []; dwaits = []; changes = []; flip = None };
 }
 
+-- under fixed timing a branch that isn't taken costs a cycle more and redirects, as a taken one does
 row4 : run row4_setup 10 (first_system row4_setup) ≡ Retire 2 0x100080 0x7c016073 0 0x0 None (Some 0x2)
     (Some (0x0, 0x0)) ∷ Retire 4 0x100084 0x1463 0 0x0 None None None ∷ Retire 6 0x100088 0x20337 6 0x20000 None None
     None ∷ Retire 7 0x10008c 0x100393 7 0x1 None None None ∷ Retire 9 0x100090 0x732423 0 0x0
@@ -253,6 +256,7 @@ row5_setup = record {
   };
 }
 
+-- a division stays in the stage for 38 cycles, and the next instruction retires the cycle after it
 row5 : run row5_setup 44 (first_system row5_setup) ≡ Retire 2 0x100080 0x6400293 5 0x64 None None (Some (0x0, 0x0)) ∷
     Retire 3 0x100084 0x700413 8 0x7 None None (Some (0x0, 0x0)) ∷ Retire 41 0x100088 0x282c4b3 9 0xe None None
     (Some (0x64, 0x7)) ∷ Retire 42 0x10008c 0x20337 6 0x20000 None None (Some (0x0, 0x0)) ∷ Retire 43 0x100090 0x100393
@@ -308,6 +312,7 @@ row7_setup = record {
   };
 }
 
+-- a load across two words waits for two transactions, each with its own entry of the plan
 row7 : run row7_setup 17 (first_system row7_setup) ≡ Retire 2 0x100080 0x1002b7 5 0x100000 None None (Some (0x0, 0x0))
     ∷ Retire 9 0x100084 0x832a403 8 0x32a40300
     (Some (record { addr = 0x100083; size = 4; store = false; value = 0x0 })) None (Some (0x100000, 0x0)) ∷ Retire 10
@@ -366,6 +371,7 @@ row12b_setup = record {
   };
 }
 
+-- a line that rises as MIE is set is taken in the next cycle, and the handler's word 0 is illegal
 row12b : run row12b_setup 8 (first_system row12b_setup) ≡ Retire 2 0x100080 0x30446073 0 0x0 None (Some 0x8)
     (Some (0x0, 0x0)) ∷ Retire 3 0x100084 0x30046073 0 0x0 None (Some 0x88) (Some (0x0, 0x0)) ∷ Irq 4 0x100088 3 ∷ Trap
     7 0x10000c 0x0 2 0x0 0x0 ∷ []
@@ -414,6 +420,7 @@ row13_setup = record {
   plan = record { iwaits = []; dwaits = []; changes = []; flip = None };
 }
 
+-- with dummies on, one takes a cycle between two instructions and has no event
 row13 : run row13_setup 8 (first_system row13_setup) ≡ Retire 2 0x100080 0x7c026073 0 0x0 None (Some 0x4)
     (Some (0x0, 0x0)) ∷ Retire 3 0x100084 0x20337 6 0x20000 None None (Some (0x0, 0x0)) ∷ Retire 5 0x100088 0x100393 7
     0x1 None None (Some (0x0, 0x0)) ∷ Retire 7 0x10008c 0x732423 0 0x0

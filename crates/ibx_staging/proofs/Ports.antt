@@ -58,6 +58,7 @@ still_portions s t h c b k =
     item_stays (image_memory s.image) s.plan.dwaits h.times.made (t + 1) (item_at s t h).portions (access_at s t h)
     h.writes c k.0 k.1 (all_before (image_memory s.image) h.writes c b)
 
+-- an item without portions writes nothing, so memory stays
 still_none : (s : Setup) (t : ℕ) (h : Story) (c : ℕ) → IsBefore h.writes c → (item_at s t h).portions ≡ NoPortion
     → Stays (image_memory s.image) (taken s t h).writes c
 unfolding taken
@@ -82,12 +83,14 @@ unfolding answer_time grant_time
 past_portions ws n e c false past up = (λ z. absurd (omega (arith, past, z)), λ z. absurd (omega (arith, up, z)))
 past_portions ws n e c true past up = (λ z. absurd (omega (arith, past, z)), λ z. absurd (omega (arith, past, z)))
 
+-- no portion is granted in the cycle in which one is answered
 answered_portions : (ws : List Wait) (n e c : ℕ) (b : Bool) → portion_answer ws n e b ≡ c
     → (portion_grant ws n e false ≢ c) × (portion_grant ws n e true ≢ c)
 unfolding answer_time grant_time
 answered_portions ws n e c false at = past_portions ws n e c false (omega (arith, at)) (omega (arith, at))
 answered_portions ws n e c true at = past_portions ws n e c true (omega (arith, at)) (omega (arith, at))
 
+-- no portion is granted while the one that is issued still waits for its grant
 late_portions : (ws : List Wait) (n e c : ℕ) (b : Bool) → c < portion_grant ws n e b → portion_issue ws n e b ≤ c
     → (portion_grant ws n e false ≢ c) × (portion_grant ws n e true ≢ c)
 unfolding answer_time grant_time
@@ -104,6 +107,7 @@ load_taken s t h w e load =
     ap (λ a. writes_with s.plan.dwaits h.times.made (t + 1) (item_at s t h).portions a h.writes) e
     ∙ load_writes s.plan.dwaits h.times.made (t + 1) (item_at s t h).portions w h.writes load
 
+-- the portion of a store that is granted in this cycle is in the memory of the next
 store_taken : (s : Setup) (t : ℕ) (h : Story) (c : ℕ) (w : Access) (b : Bool) → Portion s t h w b → IsBefore h.writes c
     → w.store ≡ true → portion_grant s.plan.dwaits h.times.made (t + 1) b ≡ c
     → memory_at (image_memory s.image) (taken s t h).writes (c + 1)

@@ -25,6 +25,7 @@ pub low_word : (f : ℕ → ℕ) → ((k : ℕ) → f k < 256) → bytes_number 
 unfolding bytes_number
 low_word f h = let a = h 0 in let b = h 1 in let c = h 2 in let d = h 3 in omega (arith, a, b, c, d)
 
+-- where the four enables make 15, each byte is enabled
 bits_all : (f : ℕ → Bool) → bits_number f 4 ≡ 15 → (k : ℕ) → k < 4 → f k ≡ true
 bits_all f e k lt = sym (bit_at-bits_number f k lt) ∙ ap (λ n. eqb (bit_at n k) 1) e
     ∙ four (λ j. eqb (bit_at 15 j) 1 ≡ true) refl refl refl refl k lt
@@ -55,6 +56,7 @@ lane_at f lane old a b j lt =
     by true x y p q e k = e
     by false x y p q e k = k
 
+-- a word's bytes add up the same with their places as numbers and as powers of 256
 sum_of : (a b c d p q r s : ℕ) → a ≡ p → b ≡ q → c ≡ r → d ≡ s
     → a + 256 * b + 65536 * c + 16777216 * d ≡ 0 + p * 256 ^ 0 + q * 256 ^ 1 + r * 256 ^ 2 + s * 256 ^ 3
 sum_of a b c d p q r s e f g h = omega arith

@@ -39,6 +39,7 @@ portion_low : (addr : ℕ) (second : Bool) → addr < 2 ^ 32 → portion_addr ad
 portion_low addr false small = small
 portion_low addr true small = omega arith
 
+-- the first address of a word is in the same word
 start_word : (a : ℕ) → a / 4 * 4 / 4 ≡ a / 4
 start_word a = omega arith
 

@@ -28,6 +28,7 @@ skip_write : (memory : Memory) (w : Write) (ws : List Write) (c : ℕ) → c ≤
 unfolding memory_at
 skip_write memory w ws c h = rw (le-ltb w.time c h) refl
 
+-- a write is in memory in every cycle after its own
 pub take_write : (memory : Memory) (w : Write) (ws : List Write) (c : ℕ) → w.time < c
     → memory_at memory (w ∷ ws) c ≡ written (memory_at memory ws c) w
 unfolding memory_at
@@ -43,6 +44,7 @@ same_write memory w ws c ne stays =
       | inr late ↦ skip_write memory w ws (c + 1) (omega (arith, ne)) ∙ stays ∙ sym (skip_write memory w ws c late)
     ]
 
+-- a write in this cycle is made between this cycle's memory and the next one's
 now_write : (memory : Memory) (w : Write) (ws : List Write) (c : ℕ) → w.time ≡ c → Stays memory ws c
     → memory_at memory (w ∷ ws) (c + 1) ≡ written (memory_at memory (w ∷ ws) c) w
 now_write memory w ws c now stays =
@@ -72,6 +74,7 @@ none_written memory Two true first second ws c a b k =
 none_written memory TwoBad true first second ws c a b k =
     same_write memory second (first ∷ ws) c b (same_write memory first ws c a k)
 
+-- where the first portion is granted in this cycle and the second later, the first alone is added
 first_written : (memory : Memory) (portions : Portions) (first second : Write) (ws : List Write) (c : ℕ)
     → reaches portions false ≡ true → first.time ≡ c → c < second.time → Stays memory ws c
     → memory_at memory (written_by portions true first second ws) (c + 1)
@@ -85,6 +88,7 @@ first_written memory Two first second ws c r a b k =
 first_written memory TwoBad first second ws c r a b k =
     late_write memory second first (first ∷ ws) c b (now_write memory first ws c a k)
 
+-- where the second portion is granted in this cycle and the first in another, the second alone is added
 second_written : (memory : Memory) (portions : Portions) (first second : Write) (ws : List Write) (c : ℕ)
     → reaches portions true ≡ true → first.time ≢ c → second.time ≡ c → Stays memory ws c
     → memory_at memory (written_by portions true first second ws) (c + 1)
@@ -109,6 +113,7 @@ item_stays memory waits n e portions None ws c x y k = k
 item_stays memory waits n e portions (Some a) ws c x y k =
     none_written memory portions a.store (write_of waits n e a false) (write_of waits n e a true) ws c x y k
 
+-- an item without portions adds no write, so memory stays
 pub no_writes : (memory : Memory) (waits : List Wait) (n e : ℕ) (a : Option Access) (ws : List Write) (c : ℕ)
     → Stays memory ws c → Stays memory (writes_with waits n e NoPortion a ws) c
 unfolding written_by
@@ -146,7 +151,7 @@ portion_written memory waits n e portions a true ws c r st now k =
     ∙ sym (ap (λ v. memory_with (memory_at memory
     (written_by portions v (write_of waits n e a false) (write_of waits n e a true) ws) c) a true) st)
 
--- only RAM is in every memory over time
+-- writes leave the range of RAM
 pub memory_ram : (memory : Memory) (ws : List Write) (c : ℕ) → (memory_at memory ws c).ram ≡ memory.ram
 unfolding memory_at with_bytes
 memory_ram memory [] c = refl

@@ -396,6 +396,7 @@ unfolding wires_at bus_line story_after ctl_after dummy_word dummy_cost brought_
     answer_time lib.Count.count_trailing_zeros lib.Count.count_leading_zeros
 answer_of_miss = refl
 
+-- the other word of the line that the miss stored is a hit: it answers a cycle after its request
 answer_of_hit : (requested nothing_past (0x00100000 ∷ 0x00100004 ∷ [])).answer ≡ 305
 unfolding wires_at bus_line story_after ctl_after dummy_word dummy_cost brought_parcels step_with words_there admission
     item_at access_at taken continued event_at told up_to_halt retired_item item_of dummy_item memory_at written_by

@@ -30,12 +30,13 @@ unfolding first_from
 first_here zero p c e = refl
 first_here (suc n) p c e = rw e refl
 
--- so an interrupt is done in the cycle after its admission
+-- the item of an interrupt takes no parcels, has neither portions nor a cost, and redirects
 irq_item_is : (k : Settings) (c : Ctl) (v : View) → (v.kind == 2) ≡ true
     → item_of k c v ≡ record (plain 0) { redirects = true }
 unfolding item_of
 irq_item_is k c v e = rw e refl
 
+-- an item with no portion, cost or wait is done as it enters, a cycle after its admission
 turning_done : (k : Settings) (limit t : ℕ) (x : Times)
     → done_of k limit t (record (plain 0) { redirects = true }) x ≡ suc t
 unfolding done_of done_by
@@ -44,6 +45,7 @@ turning_done k limit t x =
     (le-leb (t + 1 + 0) (t + 1) (omega arith))
     ∙ omega arith
 
+-- so an interrupt is done in the cycle after its admission, whatever the limit
 irq_done : (s : Setup) (limit t number : ℕ) (h : Story)
     → done_of (settings_of s) limit t (item_by s h (Some (Interrupt number))) h.times ≡ suc t
 irq_done s limit t number h =
@@ -64,6 +66,7 @@ irq_arch : (k : Settings) (s : State) (number t : ℕ) → is_taken s.csrs (line
 unfolding takes_choice
 irq_arch k s number t e = e
 
+-- the parcels that were brought are a choice that the state takes in every cycle
 brought_arch : (s : Setup) (h : Story) (d : ℕ) → IsArch s h d (Some (brought_parcels s h))
 unfolding brought_parcels takes_choice
 brought_arch s h d = refl
@@ -94,6 +97,7 @@ arch_by s limit t h c None true e = tt
 arch_by s limit t h c None false e =
     brought_arch s h (done_of (settings_of s) limit t (item_by s h (choice_by s h AnInstruction)) h.times)
 
+-- so the state takes the choice of what is admitted at t, in its done cycle
 arch_at : (s : Setup) (limit t : ℕ) (h : Story) → HasCtl h → IsArch s h (done_at s limit t h) (choice_at s t h)
 unfolding item_at kind_at
 arch_at s limit t h c = arch_by s limit t h c (pending_in (values_of h.times.ctl) (lines_in (settings_of s) t))
@@ -106,6 +110,7 @@ pub after_zero : (s : Setup) (limit : ℕ) → story_after s limit zero ≡ open
 unfolding story_after
 after_zero s limit = refl
 
+-- one item more continues the story with the item that is admitted next
 pub after_suc : (s : Setup) (limit n : ℕ)
     → story_after s limit (suc n) ≡ continued s limit (admission s limit (story_after s limit n))
     (story_after s limit n)
@@ -117,6 +122,7 @@ opening_ctl : (s : Setup) → HasCtl (opening s)
 unfolding first_times reset_state
 opening_ctl s = sym (ctl_of-reset s.image.entry)
 
+-- after any number of items the times have the control registers of the state
 pub story_ctl : (s : Setup) (limit n : ℕ) → HasCtl (story_after s limit n)
 story_ctl s limit zero = subst HasCtl (sym (after_zero s limit)) (opening_ctl s)
 story_ctl s limit (suc n) =
@@ -148,6 +154,7 @@ link_by s limit n (Some choice) i d y events low chosen step same rest = (
 )
 link_by s limit n None i d y events low chosen step same rest = subst (λ x. IsChain s limit x events) same rest
 
+-- an item that is admitted before limit puts its event, if it has one, in front of the chain of the rest
 link : (s : Setup) (limit n t : ℕ) (events : List Event) → admission s limit (story_after s limit n) ≡ t → t < limit
     → IsChain s limit (continued s limit t (story_after s limit n)).state events
     → IsChain s limit (story_after s limit n).state (with_event (event_at s limit t (story_after s limit n)) events)

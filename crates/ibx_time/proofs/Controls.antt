@@ -17,19 +17,23 @@ pub ctl_of-counters : (v : CsrValues) (n : ℕ) → ctl_of (counters_after v n) 
 unfolding counters_after
 ctl_of-counters v n = refl
 
+-- a cycle of the counters moves no register that time depends on
 pub ctl_of-tick : (v : CsrValues) (retired : Bool) (wrote : Option ℕ) → ctl_of (csr_tick v retired wrote) ≡ ctl_of v
 unfolding csr_tick
 ctl_of-tick v retired wrote = refl
 
+-- at reset they have the same values whatever the entry
 pub ctl_of-reset : (entry : ℕ) → ctl_of (csr_reset entry) ≡ ctl_reset
 unfolding csr_reset
 ctl_of-reset entry = refl
 
+-- what entering a handler leaves of them doesn't depend on the program counter, the cause or the value
 pub ctl_of-enter : (v : CsrValues) (pc cause : ℕ) (irq : Bool) (tval : ℕ)
     → ctl_of (with_trap_regs v (enter_of (trap_regs v) pc cause irq tval)) ≡ ctl_entered (ctl_of v) irq
 unfolding with_trap_regs enter_of
 ctl_of-enter v pc cause irq tval = refl
 
+-- MRET leaves of them what it leaves where all other registers are 0
 pub ctl_of-leave : (v : CsrValues) → ctl_of (with_trap_regs v (leave_of (trap_regs v))) ≡ ctl_left (ctl_of v)
 unfolding with_trap_regs leave_of
 ctl_of-leave v = refl
@@ -48,11 +52,13 @@ by_register v (Pmpaddr k) w = by_locked (is_addr_locked (cfg_bytes v) k)
     by_locked false = refl
 by_register v _ w = refl
 
+-- the same for the register that there may be; without one nothing is written
 by_found : (v : CsrValues) (o : Option Csr) (w : ℕ)
     → ctl_of (put_at v w o) ≡ ctl_of (put_at (values_of (ctl_of v)) w o)
 by_found v None w = refl
 by_found v (Some c) w = by_register v c w
 
+-- what a write leaves of them is told by them, the address and the value
 pub ctl_of-write : (v : CsrValues) (a w : ℕ) → ctl_of (csr_write v a w) ≡ ctl_written (ctl_of v) a w
 unfolding csr_write
 ctl_of-write v a w = by_found v (writable v.machine a) w
@@ -69,10 +75,12 @@ loose_put v (Pmpaddr k) w e = absurd (cc)
 loose_put v Cpuctrl w e = absurd (cc)
 loose_put v _ w e = refl
 
+-- a write that finds no register, or a loose one, leaves them
 loose_found : (v : CsrValues) (o : Option Csr) (w : ℕ) → is_loose o ≡ true → ctl_of (put_at v w o) ≡ ctl_of v
 loose_found v None w e = refl
 loose_found v (Some c) w e = loose_put v c w e
 
+-- a write at an address of no control register leaves the registers that time depends on
 pub ctl_of-other : (v : CsrValues) (a w : ℕ) → is_control_at a ≡ false → ctl_of (csr_write v a w) ≡ ctl_of v
 unfolding csr_write
 ctl_of-other v a w e = loose_found v (writable v.machine a) w (writable_loose v.machine a e)

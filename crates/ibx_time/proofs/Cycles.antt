@@ -30,6 +30,7 @@ has_views s = record {
   real = λ h. view_real s h;
 }
 
+-- the timeline of a history's views gives the cycles of its events
 pub is_timed : (s : Setup) → IsTimed s
 is_timed s n = timed s (has_views s) n n (opening s)
 
@@ -44,6 +45,7 @@ agree_by : (n m c : ℕ) (p : ℕ → Bool) (b : Bool)
 agree_by n m c p true e f g = refl
 agree_by n m c p false e f g = e (omega (arith, f)) (omega (arith, g))
 
+-- a search that ends below two limits ends in the same cycle with both
 first_agree : (n m c : ℕ) (p : ℕ → Bool) → first_from n p c < c + n → first_from m p c < c + m
     → first_from n p c ≡ first_from m p c
 unfolding first_from
@@ -70,16 +72,19 @@ done_by_agree k OneBad n e sa sb a b same f g = refl
 done_by_agree k Two n e sa sb a b same f g = refl
 done_by_agree k TwoBad n e sa sb a b same f g = refl
 
+-- an item without a portion that ends below two limits ends in the same cycle with both
 stops_agree : (k : Settings) (a b e : ℕ) (i : Item) (x : Times) → stop_of k a i x.ctl e < a → stop_of k b i x.ctl e < b
     → stop_of k a i x.ctl e ≡ stop_of k b i x.ctl e
 stops_agree k a b e i x f g = up_to a b e (may_end k i x.ctl e) f g
 
+-- an item that is done below two limits is done in the same cycle with both
 dones_agree : (k : Settings) (a b t : ℕ) (i : Item) (x : Times) → done_of k a t i x < a → done_of k b t i x < b
     → done_of k a t i x ≡ done_of k b t i x
 unfolding done_of
 dones_agree k a b t i x f g = done_by_agree k i.portions x.made (t + 1) (stop_of k a i x.ctl (t + 1))
     (stop_of k b i x.ctl (t + 1)) a b (stops_agree k a b (t + 1) i x) f g
 
+-- an item that is admitted below two limits is admitted in the same cycle with both
 admissions_agree : (k : Settings) (a b done : ℕ) (x : Times) (v : View) → admission_for k a done x v < a
     → admission_for k b done x v < b → admission_for k a done x v ≡ admission_for k b done x v
 unfolding admission_for
@@ -118,6 +123,7 @@ unfolding cycles_from
 no_cycles k limit zero done x pc = refl
 no_cycles k limit (suc n) done x pc = refl
 
+-- an item that isn't done before limit ends the list of cycles
 stopped : (k : Settings) (limit n done : ℕ) (x : Times) (v : View) (vs : List View) (pc : ℕ)
     → nat_lt (done_for k limit (admission_for k limit done x v) x v) limit ≡ false
     → cycles_from k limit (suc n) done x (v ∷ vs) pc ≡ []
@@ -130,6 +136,7 @@ none_full : (vs : List View) (v : View) (cycles : List ℕ) → cycles ≡ [] �
 none_full vs v cycles e full =
     let no_ : zero ≡ suc (length vs) = sym (ap (λ (l : List ℕ). length l) e) ∙ full in absurd (omega (arith, no_))
 
+-- a test that failed would leave this view without a cycle, so it holds
 goes_by : (k : Settings) (limit n done : ℕ) (x : Times) (v : View) (vs : List View) (pc : ℕ) (b : Bool)
     → nat_lt (done_for k limit (admission_for k limit done x v) x v) limit ≡ b
     → IsFull k limit (suc n) done x (v ∷ vs) pc → b ≡ true
@@ -137,6 +144,7 @@ goes_by k limit n done x v vs pc true e full = refl
 goes_by k limit n done x v vs pc false e full =
     none_full vs v (cycles_from k limit (suc n) done x (v ∷ vs) pc) (stopped k limit n done x v vs pc e) full
 
+-- where each view has its cycle, the next item is done before limit
 goes_on : (k : Settings) (limit n done : ℕ) (x : Times) (v : View) (vs : List View) (pc : ℕ)
     → IsFull k limit (suc n) done x (v ∷ vs) pc
     → nat_lt (done_for k limit (admission_for k limit done x v) x v) limit ≡ true

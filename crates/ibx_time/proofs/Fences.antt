@@ -30,15 +30,18 @@ pub cached_unseen : (s : Settings) (ss : List Switch) (fs : List ℕ) (c t : ℕ
 unfolding is_cached
 cached_unseen s ss fs c t h = ap (λ v. enabled_at ss t && v) (walked_unseen s fs c t h)
 
+-- a fence at c is in no span of cycles that are all before c
 pub between_unseen : (fs : List ℕ) (c a b : ℕ) → b ≤ c → none_between (c ∷ fs) a b ≡ none_between fs a b
 unfolding none_between
 between_unseen fs c a b h = rw (le-leb b c h) (or_yes (nat_lt c a) (none_between fs a b))
 
+-- before c a fill holds a line just where it does without the fence
 line_unseen : (fs : List ℕ) (c t line : ℕ) (k : Option Fill) → t < c
     → holds_line (c ∷ fs) t line k ≡ holds_line fs t line k
 line_unseen fs c t line None h = refl
 line_unseen fs c t line (Some k) h = rw (between_unseen fs c k.time (t + 1) (omega arith))
 
+-- so a line is present before c just where it is without the fence
 pub present_unseen : (s : Settings) (fs : List ℕ) (fills : List Fill) (c t line : ℕ) → t < c
     → is_present (c ∷ fs) fills line t ≡ is_present fs fills line t
 unfolding is_present
@@ -46,6 +49,7 @@ present_unseen s fs fills c t line h =
     ap₂ (λ a b. a || b) (line_unseen fs c t line (last_fill fills (slot_of line false)) h)
     (line_unseen fs c t line (last_fill fills (slot_of line true)) h)
 
+-- a present line is found in the same place before c
 pub slot_unseen : (s : Settings) (fs : List ℕ) (fills : List Fill) (c t line : ℕ) → t < c
     → found_slot (c ∷ fs) fills line t ≡ found_slot fs fills line t
 unfolding found_slot
@@ -53,10 +57,12 @@ slot_unseen s fs fills c t line h =
     ap (λ b. if b then slot_of line false else slot_of line true)
     (line_unseen fs c t line (last_fill fills (slot_of line false)) h)
 
+-- a place is empty before c just where it is without the fence
 free_unseen : (fs : List ℕ) (c t : ℕ) (k : Option Fill) → t < c → not (stands (c ∷ fs) t k) ≡ not (stands fs t k)
 free_unseen fs c t None h = refl
 free_unseen fs c t (Some k) h = ap (λ b. not b) (between_unseen fs c k.time (t + 1) (omega arith))
 
+-- so a fill before c takes the same way with the fence and without it
 pub victim_unseen : (s : Settings) (fs : List ℕ) (fills : List Fill) (c t line : ℕ) → t < c
     → victim (c ∷ fs) fills line t ≡ victim fs fills line t
 unfolding victim
@@ -185,18 +191,20 @@ pub enabled_unseen : (ss : List Switch) (v : Switch) (t : ℕ) → t ≤ v.time 
 unfolding enabled_at
 enabled_unseen ss v t h = rw (le-ltb v.time t h)
 
--- so requests before it, their issue and their number are the same
+-- so up to that cycle a request is cached just where it is without the write
 pub cached_switched : (s : Settings) (ss : List Switch) (fs : List ℕ) (v : Switch) (t : ℕ) → t ≤ v.time
     → is_cached (v ∷ ss) fs t ≡ is_cached ss fs t
 unfolding is_cached
 cached_switched s ss fs v t h = ap (λ b. b && is_walked fs t) (enabled_unseen ss v t h)
 
+-- a request up to the write's cycle leaves the same with the write and without it
 pub request_switched : (s : Settings) (ss : List Switch) (fs : List ℕ) (y : Past) (v : Switch) (t a : ℕ) → t ≤ v.time
     → after_request s (v ∷ ss) fs y t a ≡ after_request s ss fs y t a
 request_switched s ss fs y v t a h =
     ap (λ b. request_by b (is_present fs y.fills (line_of a) t) (is_kept s fs y t a)
     (found_slot fs y.fills (line_of a) t) (victim fs y.fills (line_of a) t) s y t a) (cached_switched s ss fs v t h)
 
+-- the words that are requested before c leave the same where the write isn't before c
 pub past_switched : (s : Settings) (x : Stream) (c q : ℕ) (v : Switch) → IsRequested s x c q → c ≤ v.time → (j : ℕ)
     → j ≤ q → past s (switched_by x v) j ≡ past s x j
 unfolding past gate
@@ -208,11 +216,13 @@ past_switched s x c q v r late (suc j) low =
     ∙ request_switched s x.switches x.fences (past s x j) v (max (past s x j).answer (gate x j)) (word_addr x j)
     (omega (arith, issue_is s x j))
 
+-- they and the word after them are requested in the same cycles as without the write
 pub issue_switched : (s : Settings) (x : Stream) (c q : ℕ) (v : Switch) → IsRequested s x c q → c ≤ v.time → (j : ℕ)
     → j ≤ q → issue s (switched_by x v) j ≡ issue s x j
 unfolding issue gate
 issue_switched s x c q v r late j low = ap (λ y. max y.answer (gate x j)) (past_switched s x c q v r late j low)
 
+-- so as many words are requested before c as without the write
 pub requested_switched : (s : Settings) (x : Stream) (c q : ℕ) (v : Switch) → IsRequested s x c q → c ≤ v.time
     → IsRequested s (switched_by x v) c q
 requested_switched s x c q v r late =

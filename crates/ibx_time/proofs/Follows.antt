@@ -54,6 +54,7 @@ ended_csrs : (pc : ℕ) (regs : List ℕ) (c word : ℕ) (ops : Option (ℕ × �
 ended_csrs pc regs c word ops after (Retires r) = refl
 ended_csrs pc regs c word ops after (Traps cause tval addr) = refl
 
+-- the view says what is left of the control registers, by a retirement or by a trap
 ended_ctl : (k : Ctl) (pc : ℕ) (regs : List ℕ) (c word : ℕ) (ops : Option (ℕ × ℕ)) (after : Executed) (d : Done)
     → ctl_after k (view_of (stepped_by pc regs c word ops after d).event) ≡ left_by k (instruction_of word) d
 unfolding view_of ctl_after
@@ -72,6 +73,7 @@ module _ (s : State) (pc : ℕ) where
       ctl_of-enter (csr_tick s.csrs false None) pc cause false tval
       ∙ ap (λ c. ctl_entered c false) (ctl_of-tick s.csrs false None)
 
+  -- the counters of an instruction that retires leave the control registers
   ticked : ctl_of (csr_tick s.csrs true None) ≡ ctl_of s.csrs
   ticked = ctl_of-tick s.csrs true None
 
@@ -82,12 +84,14 @@ module _ (s : State) (pc : ℕ) where
   load_follows op rd rs1 imm addr next None (Some at) = trap_follows (Some (Load op rd rs1 imm)) 5 at addr
   load_follows op rd rs1 imm addr next None None = ticked
 
+  -- a load leaves the control registers, or what a trap leaves where it fails
   load_row : (op : LoadOp) (rd rs1 imm addr next : ℕ) → Follows (Some (Load op rd rs1 imm)) (load s op rd addr next)
   unfolding load
   load_row op rd rs1 imm addr next =
       load_follows op rd rs1 imm addr next (refused_at s.csrs addr (size_of op) Read)
       (error_at s.memory.ram addr (size_of op))
 
+  -- a store that is refused or not answered traps, and one that is done leaves them
   store_follows : (size rs1 rs2 imm addr value next : ℕ) (refused error : Option ℕ)
       → Follows (Some (Store size rs1 rs2 imm)) (store_with s size addr value next refused error)
   store_follows size rs1 rs2 imm addr value next (Some at) error =
@@ -96,6 +100,7 @@ module _ (s : State) (pc : ℕ) where
       trap_follows (Some (Store size rs1 rs2 imm)) 7 at addr
   store_follows size rs1 rs2 imm addr value next None None = ticked
 
+  -- so it is for a store, by what protection refuses and which memory answers
   store_row : (size rs1 rs2 imm addr value next : ℕ)
       → Follows (Some (Store size rs1 rs2 imm)) (store s size addr value next)
   unfolding store
@@ -114,6 +119,7 @@ module _ (s : State) (pc : ℕ) where
   written_by_csr op rd src addr imm value false e =
       ctl_of-other (csr_tick s.csrs true (Some addr)) addr value e ∙ ctl_of-tick s.csrs true (Some addr)
 
+  -- an access that only reads, one that may not write and so is illegal, and one that writes
   csr_by : (op : CsrOp) (rd src source addr word next old : ℕ) (imm w1 w2 : Bool)
       → Follows (Some (Csr op rd src imm addr))
       (if not w1 then plain s rd old next else
@@ -134,18 +140,21 @@ module _ (s : State) (pc : ℕ) where
   csr_by op rd src source addr word next old imm true true =
       written_by_csr op rd src addr imm (written op old source) (is_control_at addr) refl
 
+  -- an access whose address names no register that can be read is illegal, and so a trap
   csr_found : (op : CsrOp) (rd src source addr word next : ℕ) (imm : Bool) (o : Option ℕ)
       → Follows (Some (Csr op rd src imm addr)) (csr_with s op rd src source addr word next o)
   csr_found op rd src source addr word next imm None = trap_follows (Some (Csr op rd src imm addr)) 2 word 0
   csr_found op rd src source addr word next imm (Some old) =
       csr_by op rd src source addr word next old imm (writes op src) (csr_can_write s.csrs addr)
 
+  -- so an access to a CSR leaves what its view says
   csr_row : (op : CsrOp) (rd src source addr word next lines : ℕ) (imm : Bool)
       → Follows (Some (Csr op rd src imm addr)) (csr_access s op rd src source addr word next lines)
   unfolding csr_access
   csr_row op rd src source addr word next lines imm =
       csr_found op rd src source addr word next imm (csr_read s.csrs addr lines)
 
+  -- what MRET leaves of the control registers doesn't depend on the other registers
   left_mret : ctl_of (with_trap_regs (csr_tick s.csrs true None) (leave_of (trap_regs s.csrs)))
       ≡ ctl_left (ctl_of s.csrs)
   unfolding with_trap_regs leave_of csr_tick
@@ -163,10 +172,12 @@ module _ (s : State) (pc : ℕ) where
   mret_by word false = trap_follows (Some Mret) 2 word 0
   mret_by word true = left_mret
 
+  -- in machine mode MRET leaves what it says, and in user mode it is a trap
   mret_row : (word : ℕ) → Follows (Some Mret) (return_from_trap s word)
   unfolding return_from_trap
   mret_row word = mret_by word s.csrs.machine
 
+  -- WFI leaves the control registers where it may wait, and else it is a trap
   wait_by : (word next : ℕ) (may : Bool) → Follows (Some Wfi) (if may then plain s 0 0 next else illegal s word)
   wait_by word next true = ticked
   wait_by word next false = trap_follows (Some Wfi) 2 word 0
@@ -217,12 +228,14 @@ decoded_ctl s c word length lines (Some insn) e =
     finished_ctl s c word (operands s insn) (execute s insn word length lines) (Some insn) e
     (row s s.pc insn word length lines)
 
+-- an unsound parcel is a trap, and a word that was fetched is decoded
 fetched_ctl : (s : State) (c lines : ℕ) (f : Fetched)
     → ctl_of (after_fetch s c lines f).next.csrs ≡ ctl_after (ctl_of s.csrs) (view_of (after_fetch s c lines f).event)
 fetched_ctl s c lines (Unsound addr) =
     finished_ctl s c 0 None (trap s 1 addr 0) (instruction_of 0) refl (trap_follows s s.pc (instruction_of 0) 1 addr 0)
 fetched_ctl s c lines (Instruction word length) = decoded_ctl s c word length lines (instruction_of word) refl
 
+-- a step by parcels leaves what its view says, since counters that move change none of it
 parcels_ctl : (k : Settings) (s : State) (first second d : ℕ)
     → ctl_of (step_with (lines_in k) s (Parcels first second) d).next.csrs
     ≡ ctl_after (ctl_of s.csrs) (view_of (step_with (lines_in k) s (Parcels first second) d).event)
@@ -232,6 +245,7 @@ parcels_ctl k s first second d =
     ∙ ap (λ c. ctl_after c (view_of (after_fetch (at_cycle s d) d (lines_in k d)
     (fetch (at_cycle s d) first second)).event)) (ctl_of-counters s.csrs (d - s.stands))
 
+-- an interrupt leaves what entering its handler leaves, as the kind in its view says
 interrupt_ctl : (k : Settings) (s : State) (number d : ℕ)
     → ctl_of (step_with (lines_in k) s (Interrupt number) d).next.csrs
     ≡ ctl_after (ctl_of s.csrs) (view_of (step_with (lines_in k) s (Interrupt number) d).event)
@@ -261,29 +275,35 @@ ended_follows s h y (Some choice) i d times state e =
     ∙ sym (step_ctl (settings_of s) h.state choice d)
 ended_follows s h y None i d times state e = times ∙ e ∙ ap (λ (x : State). ctl_of x.csrs) (sym state)
 
+-- an admission leaves the control registers of the times
 taken_ctl : (s : Setup) (t : ℕ) (h : Story) → (taken s t h).times.ctl ≡ h.times.ctl
 unfolding taken admitted
 taken_ctl s t h = refl
 
+-- an admission leaves the state of the architecture
 taken_state : (s : Setup) (t : ℕ) (h : Story) → (taken s t h).state ≡ h.state
 unfolding taken
 taken_state s t h = refl
 
+-- after one item more the times' registers are still the state's
 pub continued_ctl : (s : Setup) (limit t : ℕ) (h : Story) → HasCtl h → HasCtl (continued s limit t h)
 unfolding continued
 continued_ctl s limit t h e = ended_follows s h (taken s t h) (choice_at s t h) (item_at s t h) (done_at s limit t h)
     (taken_ctl s t h) (taken_state s t h) e
 
+-- at reset both are the reset values
 opening_ctl : (s : Setup) → HasCtl (opening s)
 unfolding first_times reset_state
 opening_ctl s = sym (ctl_of-reset s.image.entry)
 
+-- it stays so whether the next item is done before limit, and the story goes on, or not
 told_by : (s : Setup) (limit n : ℕ) (h : Story) (b : Bool) → nat_lt (done_at s limit (admission s limit h) h) limit ≡ b
     → HasCtl (told s limit n (continued s limit (admission s limit h) h)).story → HasCtl h
     → HasCtl (told s limit (suc n) h).story
 told_by s limit n h true e rest here = subst HasCtl (sym (left_is s limit n h true e)) rest
 told_by s limit n h false e rest here = subst HasCtl (sym (left_is s limit n h false e)) here
 
+-- from such a story on, any number of items that are told leave such a story
 pub told_ctl : (s : Setup) (limit n : ℕ) (h : Story) → HasCtl h → HasCtl (told s limit n h).story
 unfolding told
 told_ctl s limit zero h e = e

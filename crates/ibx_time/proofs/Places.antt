@@ -28,7 +28,7 @@ use Rattle.ibx_time.proofs.Positions.{row_parcels, step_goes}
 
 -- ---- parcels
 
--- no item has more than two
+-- no word has more than two
 parcels_low : (word : ℕ) → parcels_of word ≤ 2
 parcels_low word = low_by (is_long word)
   where
@@ -36,11 +36,13 @@ parcels_low word = low_by (is_long word)
     low_by true = omega arith
     low_by false = omega arith
 
+-- nor has a trap: an unsound parcel is the first or the second, and else the word counts
 trap_low : (word : ℕ) (a b : Bool) → (if a then (if b then 1 else 2) else parcels_of word) ≤ 2
 trap_low word true true = omega arith
 trap_low word true false = omega arith
 trap_low word false b = parcels_low word
 
+-- so no item of an event takes more than two parcels
 item_low : (k : Settings) (c : Ctl) (v : View) → (item_of k c v).parcels ≤ 2
 unfolding item_of
 item_low k c v = low_by (v.kind == 2) (v.kind == 1)
@@ -126,6 +128,7 @@ dummy_parcels : (s : Setup) (h : Story) → (item_by s h None).parcels ≡ 0
 unfolding dummy_item
 dummy_parcels s h = refl
 
+-- whatever is admitted takes two parcels at most
 choice_low : (s : Setup) (h : Story) (o : Option Choice) → (item_by s h o).parcels ≤ 2
 choice_low s h (Some choice) = item_low (settings_of s) h.times.ctl (view_with s h choice)
 choice_low s h None = omega (arith, dummy_parcels s h)
@@ -165,6 +168,7 @@ continued_place s limit t h ok c low g at =
     at (taken_state s t h)
     (taken_next s t h low small ∙ ap (λ i. (next_pc h.times + 2 * i.parcels) % 2 ^ 32) item))
 
+-- at reset the address is the entry, since that is even
 opening_place : (s : Setup) → IsSane s → HasPlace (opening s)
 unfolding first_times reset_state
 opening_place s ok =

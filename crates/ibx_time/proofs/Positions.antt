@@ -47,6 +47,7 @@ load_by s op rd addr length (Some at) error turns = tt
 load_by s op rd addr length None (Some at) turns = tt
 load_by s op rd addr length None None turns = λ e. refl
 
+-- a load that retires goes on with the instruction after it
 load_next : (s : State) (op : LoadOp) (rd addr length : ℕ) (turns : Bool)
     → NextIs s length turns (load s op rd addr (following s length)).done
 unfolding load
@@ -54,18 +55,21 @@ load_next s op rd addr length turns =
     load_by s op rd addr length (refused_at s.csrs addr (size_of op) Read) (error_at s.memory.ram addr (size_of op))
     turns
 
+-- a store goes on or traps, by what is refused and what isn't answered
 store_by : (s : State) (size addr value length : ℕ) (refused error : Option ℕ) (turns : Bool)
     → NextIs s length turns (store_with s size addr value (following s length) refused error).done
 store_by s size addr value length (Some at) error turns = tt
 store_by s size addr value length None (Some at) turns = tt
 store_by s size addr value length None None turns = λ e. refl
 
+-- a store that retires goes on with the instruction after it
 store_next : (s : State) (size addr value length : ℕ) (turns : Bool)
     → NextIs s length turns (store s size addr value (following s length)).done
 unfolding store
 store_next s size addr value length turns =
     store_by s size addr value length (refused_at s.csrs addr size Write) (error_at s.memory.ram addr size) turns
 
+-- an access goes on whether it writes or only reads, and traps where it may not write
 csr_by : (s : State) (op : CsrOp) (rd addr source word length old : ℕ) (w1 w2 : Bool) (ctl : Option ℕ) (turns : Bool)
     → NextIs s length turns (
     if not w1 then plain s rd old (following s length) else
@@ -79,6 +83,7 @@ csr_by s op rd addr source word length old false w2 ctl turns = λ e. refl
 csr_by s op rd addr source word length old true false ctl turns = tt
 csr_by s op rd addr source word length old true true ctl turns = λ e. refl
 
+-- an access goes on where its address names a register that can be read, and else traps
 csr_found : (s : State) (op : CsrOp) (rd src source addr word length : ℕ) (o : Option ℕ) (turns : Bool)
     → NextIs s length turns (csr_with s op rd src source addr word (following s length) o).done
 csr_found s op rd src source addr word length None turns = tt
@@ -86,21 +91,25 @@ csr_found s op rd src source addr word length (Some old) turns =
     csr_by s op rd addr source word length old (writes op src) (csr_can_write s.csrs addr)
     (if is_control_at addr then Some (written op old source) else None) turns
 
+-- an access to a CSR that retires goes on with the instruction after it
 csr_next : (s : State) (op : CsrOp) (rd src source addr word length lines : ℕ) (turns : Bool)
     → NextIs s length turns (csr_access s op rd src source addr word (following s length) lines).done
 unfolding csr_access
 csr_next s op rd src source addr word length lines turns =
     csr_found s op rd src source addr word length (csr_read s.csrs addr lines) turns
 
+-- in user mode MRET is a trap, of which no next address is asked
 return_by : (s : State) (word length : ℕ) (machine : Bool) (x : Executed) → NextIs s length true x.done
     → NextIs s length true (if not machine then illegal s word else x).done
 return_by s word length true x h = h
 return_by s word length false x h = tt
 
+-- MRET redirects, so it needn't go on with the instruction after it
 return_next : (s : State) (word length : ℕ) → NextIs s length true (return_from_trap s word).done
 unfolding return_from_trap
 return_next s word length = return_by s word length s.csrs.machine _ (λ e. let no_ : true ≡ false = e in absurd (cc))
 
+-- WFI goes on with the instruction after it, or traps where it may not wait
 wait_next : (s : State) (word length : ℕ) (may turns : Bool)
     → NextIs s length turns (if may then plain s 0 0 (following s length) else illegal s word).done
 wait_next s word length true turns = λ e. refl
@@ -153,6 +162,7 @@ branch_parcels : (b : Bool) (n : ℕ) → (branching b (plain_item n)).parcels �
 branch_parcels true n = refl
 branch_parcels false n = refl
 
+-- the parcels of an item that retires are those of its word, whatever the instruction does
 pub row_parcels : (k : Settings) (c : Ctl) (v : View) (o : Option Insn) (n : ℕ)
     → (retired_item k c v o (plain_item n)).parcels ≡ n
 unfolding retired_item
@@ -192,6 +202,7 @@ retired_goes k s v o word length next size h e =
     h e ∙ ap (λ n. (s.pc + n) % 2 ^ 32)
     (sym size ∙ ap (λ n. 2 * n) (sym (row_parcels k (ctl_of s.csrs) v o (parcels_of word))))
 
+-- an instruction that retires moves by its parcels unless it redirects, and a trap always redirects
 ended_goes : (k : Settings) (s : State) (c word length : ℕ) (ops : Option (ℕ × ℕ)) (after : Executed) (d : Done)
     → 2 * parcels_of word ≡ length → ((v : View) → v.ops ≡ ops
     → NextIs s length (retired_item k (ctl_of s.csrs) v (instruction_of word) (plain_item (parcels_of word))).redirects
@@ -203,6 +214,7 @@ ended_goes k s c word length ops after (Retires r) size h =
     length r.next_pc size (h (view_of (stepped_by s.pc s.regs c word ops after (Retires r)).event) refl)
 ended_goes k s c word length ops after (Traps cause tval addr) size h = λ e. let no_ : true ≡ false = e in absurd (cc)
 
+-- a trap's item redirects, whatever its cause
 trap_goes : (k : Settings) (s : State) (c word : ℕ) (ops : Option (ℕ × ℕ)) (after : Executed) (cause tval addr : ℕ)
     → GoesOn k (ctl_of s.csrs) s (stepped_by s.pc s.regs c word ops after (Traps cause tval addr))
 unfolding view_of item_of
@@ -236,9 +248,11 @@ fetched_goes k s c lines (Instruction word length) h =
 short_length : (word : ℕ) → is_long word ≡ false → 2 * parcels_of word ≡ 2
 short_length word e = ap (λ b. 2 * (if b then 2 else 1)) e
 
+-- a long word has two parcels, which are four bytes
 long_length : (word : ℕ) → is_long word ≡ true → 2 * parcels_of word ≡ 4
 long_length word e = ap (λ b. 2 * (if b then 2 else 1)) e
 
+-- a word is long where its first parcel is, since the two lowest bits say so
 long_whole : (first second : ℕ) → is_long first ≡ true → is_long (first + 2 ^ 16 * second) ≡ true
 long_whole first second e = ap (λ n. n == 3) (omega arith) ∙ e
 
@@ -254,6 +268,7 @@ fetch_by s first second true false c e = short_length first e
 fetch_by s first second true true false e = tt
 fetch_by s first second true true true e = long_length (first + 2 ^ 16 * second) (long_whole first second e)
 
+-- what two parcels fetch has two bytes for each parcel that it takes
 fetch_length : (s : State) (first second : ℕ) → HasLength (fetch s first second)
 unfolding fetch
 fetch_length s first second = fetch_by s first second (is_sound s.csrs s.memory.ram s.pc) (is_long first)
@@ -266,6 +281,7 @@ unfolding instruction
 instruction_goes k s first second c lines =
     fetched_goes k s c lines (fetch s first second) (fetch_length s first second)
 
+-- an interrupt's item redirects, so its address needn't move by parcels
 interrupted_goes : (k : Settings) (c : Ctl) (s : State) (number d : ℕ) → GoesOn k c s (interrupted s number d)
 unfolding interrupted view_of item_of
 interrupted_goes k c s number d = λ e. let no_ : true ≡ false = e in absurd (cc)
@@ -277,10 +293,12 @@ unfolding step_with
 step_by k s (Interrupt number) d = interrupted_goes k (ctl_of (at_cycle s d).csrs) (at_cycle s d) number d
 step_by k s (Parcels first second) d = instruction_goes k (at_cycle s d) first second d (lines_in k d)
 
+-- counters that move to a cycle change no control register
 moved_ctl : (s : State) (d : ℕ) → ctl_of (at_cycle s d).csrs ≡ ctl_of s.csrs
 unfolding counters_after
 moved_ctl s d = refl
 
+-- a step whose item doesn't redirect moves the program counter by the item's parcels
 pub step_goes : (k : Settings) (s : State) (choice : Choice) (d : ℕ)
     → GoesOn k (ctl_of s.csrs) s (step_with (lines_in k) s choice d)
 step_goes k s choice d =

@@ -83,6 +83,7 @@ module _ (s : State) (m n c d pc : ℕ) (ops : Option (ℕ × ℕ)) where
   load_same op rd addr next word None (Some at) = refl
   load_same op rd addr next word None None = refl
 
+  -- a store with the same refusal and the same error has one view at both counts
   store_same : (size addr value next word : ℕ) (refused error : Option ℕ)
       → Same word (store_with (with_count s m c) size addr value next refused error)
       (store_with (with_count s n d) size addr value next refused error)
@@ -90,11 +91,13 @@ module _ (s : State) (m n c d pc : ℕ) (ops : Option (ℕ × ℕ)) where
   store_same size addr value next word None (Some at) = refl
   store_same size addr value next word None None = refl
 
+  -- protection refuses the same accesses whatever the cycle count
   refused_same : (addr size : ℕ) (kind : AccessKind)
       → refused_at (with_count s m c).csrs addr size kind ≡ refused_at (with_count s n d).csrs addr size kind
   unfolding refused_at
   refused_same addr size kind = refl
 
+  -- so a load has one view: what fails is the same at both counts
   load_row : (op : LoadOp) (rd addr next word : ℕ)
       → Same word (load (with_count s m c) op rd addr next) (load (with_count s n d) op rd addr next)
   unfolding load
@@ -104,6 +107,7 @@ module _ (s : State) (m n c d pc : ℕ) (ops : Option (ℕ × ℕ)) where
       ∙ ap (λ o. view_by pc word ops (load_with (with_count s n d) op rd addr next o
       (error_at s.memory.ram addr (size_of op))).done) (refused_same addr (size_of op) Read)
 
+  -- a store has one view too, of its address and not of the value
   store_row : (size addr value next word : ℕ)
       → Same word (store (with_count s m c) size addr value next) (store (with_count s n d) size addr value next)
   unfolding store
@@ -161,6 +165,7 @@ module _ (s : State) (m n c d pc : ℕ) (ops : Option (ℕ × ℕ)) where
       csr_by op rd source word next (value_of (with_count s m c).csrs r l1) (value_of (with_count s n d).csrs r l2) _ _
       (writes op src) _ (is_control_at addr) (λ z. steady_value s.csrs m n l1 l2 r (e z))
 
+  -- an access to a CSR has one view, since a control register reads the same at both counts
   csr_row : (op : CsrOp) (rd src source addr word next l1 l2 : ℕ)
       → Same word (csr_access (with_count s m c) op rd src source addr word next l1)
       (csr_access (with_count s n d) op rd src source addr word next l2)
@@ -176,11 +181,13 @@ module _ (s : State) (m n c d pc : ℕ) (ops : Option (ℕ × ℕ)) where
   return_by word true x y e = e
   return_by word false x y e = refl
 
+  -- MRET has one view in either mode
   return_row : (word : ℕ) → Same word (return_from_trap (with_count s m c) word)
       (return_from_trap (with_count s n d) word)
   unfolding return_from_trap
   return_row word = return_by word s.csrs.machine _ _ refl
 
+  -- WFI has one view, whether it may wait or is illegal
   wait_by : (word next : ℕ) (may : Bool)
       → Same word (if may then plain (with_count s m c) 0 0 next else illegal (with_count s m c) word)
       (if may then plain (with_count s n d) 0 0 next else illegal (with_count s n d) word)
@@ -214,6 +221,7 @@ module _ (s : State) (m n c d pc : ℕ) (ops : Option (ℕ × ℕ)) where
 -- ---- the step
 
 module _ (s : State) (m n c d : ℕ) where
+  -- a decoded word has one view at both counts, and so has a word that fits no row
   decoded_same : (word length l1 l2 : ℕ) (o : Option Insn)
       → view_of (decoded (with_count s m c) c word length l1 o).event
       ≡ view_of (decoded (with_count s n d) d word length l2 o).event
@@ -236,6 +244,7 @@ module _ (s : State) (m n c d : ℕ) where
   fetched_same l1 l2 (Unsound addr) = refl
   fetched_same l1 l2 (Instruction word length) = decoded_same word length l1 l2 (instruction_of word)
 
+  -- what two parcels fetch doesn't depend on the cycle count
   fetch_same : (first second : ℕ) → fetch (with_count s m c) first second ≡ fetch (with_count s n d) first second
   unfolding fetch
   fetch_same first second = refl
@@ -267,12 +276,14 @@ parcels_same k s first second c d =
     ∙ instruction_same s (count_at s c) (count_at s d) c d first second (lines_in k c) (lines_in k d)
     ∙ ap (λ x. view_of (instruction x first second d (lines_in k d)).event) (sym (moved s d))
 
+-- an interrupt has one view at any two cycles
 interrupt_same : (k : Settings) (s : State) (number c d : ℕ)
     → view_of (step_with (lines_in k) s (Interrupt number) c).event
     ≡ view_of (step_with (lines_in k) s (Interrupt number) d).event
 unfolding step_with interrupted view_of
 interrupt_same k s number c d = refl
 
+-- the view of a step doesn't depend on the cycle in which it is done
 pub step_view : (k : Settings) (s : State) (choice : Choice) (c d : ℕ)
     → view_of (step_with (lines_in k) s choice c).event ≡ view_of (step_with (lines_in k) s choice d).event
 step_view k s (Interrupt number) c d = interrupt_same k s number c d

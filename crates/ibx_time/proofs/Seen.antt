@@ -59,10 +59,12 @@ pub fresh_later : (fences : List ℕ) (a b : ℕ) → a ≤ b → IsFresh fences
 fresh_later [] a b h z = tt
 fresh_later (f ∷ fences) a b h z = (omega (arith, z.0), fresh_later fences a b h z.1)
 
+-- the same, said of each FENCE.I of the list
 pub fresh_all : (fences : List ℕ) (g : ℕ) → IsFresh fences g → All (λ f. f ≤ g) fences
 fresh_all [] g z = All-nil (λ f. f ≤ g)
 fresh_all (f ∷ fences) g z = All-cons (λ u. u ≤ g) f fences z.0 (fresh_all fences g z.1)
 
+-- fills that were stored before a cycle were stored before a later one
 pub stored_later : (fills : List Fill) (v w : ℕ) → v ≤ w → AreStored fills v → AreStored fills w
 stored_later [] v w h z = tt
 stored_later (x ∷ fills) v w h z = (omega (arith, z.0), stored_later fills v w h z.1)
@@ -72,6 +74,7 @@ and_first : (a b : Bool) → a && b ≡ true → a ≡ true
 and_first true b e = refl
 and_first false b e = e
 
+-- where both parts hold, the second does
 and_second : (a b : Bool) → a && b ≡ true → b ≡ true
 and_second true b e = e
 and_second false b e = let no_ : true ≡ false = sym e in cc
@@ -102,12 +105,14 @@ fill_fresh (f ∷ fences) x t a e low clear =
           low.1 clear.1,
     )
 
+-- where a fill holds the line, no FENCE.I is after the grant of the word that is found in it
 found_fresh : (fences : List ℕ) (t line a : ℕ) (x : Fill) → holds_line fences t line (Some x) ≡ true → IsFresh fences t
     → IsClear fences x → IsFresh fences (fill_grant (Some x) a)
 unfolding fill_grant
 found_fresh fences t line a x e low clear =
     fill_fresh fences x t a (and_second (x.line == line) (none_between fences x.time (t + 1)) e) low clear
 
+-- the last fill of a place is this one, or the last of the older ones
 hit_by : (fences : List ℕ) (t line a : ℕ) (x : Fill) (o : Option Fill) (b : Bool)
     → holds_line fences t line (if b then Some x else o) ≡ true
     → (holds_line fences t line o ≡ true → IsFresh fences (fill_grant o a)) → IsFresh fences t → IsClear fences x
@@ -115,6 +120,7 @@ hit_by : (fences : List ℕ) (t line a : ℕ) (x : Fill) (o : Option Fill) (b : 
 hit_by fences t line a x o true e more low clear = found_fresh fences t line a x e low clear
 hit_by fences t line a x o false e more low clear = more e
 
+-- so no FENCE.I is after the grant of a word that hits, whichever place holds its line
 hit_fresh : (fences : List ℕ) (fills : List Fill) (slot t line a : ℕ)
     → holds_line fences t line (last_fill fills slot) ≡ true → IsFresh fences t → AreClear fences fills
     → IsFresh fences (fill_grant (last_fill fills slot) a)
@@ -130,6 +136,7 @@ way_by : (fences : List ℕ) (fills : List Fill) (line t : ℕ) (b c : Bool) →
 way_by fences fills line t true c p q e = p
 way_by fences fills line t false c p q e = q ∙ e
 
+-- the slot of a present line is that of the way which holds it
 slot_by : (line : ℕ) (b : Bool) → (if b then slot_of line false else slot_of line true) ≡ slot_of line (not b)
 slot_by line true = refl
 slot_by line false = refl
@@ -225,6 +232,7 @@ clean_by k x j z =
     (is_kept k x.fences y t a) (found_slot x.fences y.fills (line_of a) t) w (omega (arith, issue_is k x j))
     (λ e. kept_clear k x.fences y t a w e) z)
 
+-- after any number of words the fills are clean, where those before the stream were
 pub past_clean : (k : Settings) (x : Stream) (j : ℕ) → IsClean x.fences x.before → IsClean x.fences (past k x j)
 unfolding past
 past_clean k x zero z = z
@@ -340,6 +348,7 @@ retired_turns k c v (Some Ebreak) n e = let no_ : true ≡ false = sym e in cc
 retired_turns k c v (Some Mret) n e = refl
 retired_turns k c v (Some Wfi) n e = let no_ : true ≡ false = sym e in cc
 
+-- an event's item that is a FENCE.I redirects, whatever its view
 pub item_turns : (k : Settings) (c : Ctl) (v : View) → (item_of k c v).fences ≡ true → (item_of k c v).redirects ≡ true
 unfolding item_of
 item_turns k c v = kind_turns (v.kind == 2) (v.kind == 1)
@@ -357,14 +366,17 @@ item_turns k c v = kind_turns (v.kind == 2) (v.kind == 1)
     kind_turns false true e = refl
     kind_turns false false e = retired_turns k c v (instruction_of v.word) (parcels_of v.word) e
 
+-- an interrupt is no FENCE.I
 irq_item : (k : Settings) (c : Ctl) (v : View) → (v.kind == 2) ≡ true → (item_of k c v).fences ≡ false
 unfolding item_of
 irq_item k c v e = rw e refl
 
+-- a dummy is no FENCE.I
 dummy_fences : (s : Setup) (h : Story) → (item_by s h None).fences ≡ false
 unfolding dummy_item
 dummy_fences s h = refl
 
+-- whatever is admitted redirects where it is a FENCE.I
 pub choice_turns : (s : Setup) (h : Story) (o : Option Choice) → (item_by s h o).fences ≡ true
     → (item_by s h o).redirects ≡ true
 choice_turns s h (Some choice) e = item_turns (settings_of s) h.times.ctl (view_with s h choice) e
@@ -378,11 +390,13 @@ first_by : (n : ℕ) (p : ℕ → Bool) (c : ℕ) (b : Bool) → c + 1 ≤ first
 first_by n p c true h = omega arith
 first_by n p c false h = omega (arith, h)
 
+-- a search ends where it begins, or later
 pub first_after : (n : ℕ) (p : ℕ → Bool) (c : ℕ) → c ≤ first_from n p c
 unfolding first_from
 first_after zero p c = omega arith
 first_after (suc n) p c = first_by n p c (p c) (first_after n p (c + 1))
 
+-- no item is done before its enter, whatever its portions wait for
 pub done_after_by : (waits : List Wait) (portions : Portions) (n e stop : ℕ) → e ≤ stop
     → e ≤ done_by waits portions n e stop
 unfolding done_by answer_time grant_time
@@ -402,7 +416,7 @@ done_after k limit t i x =
           (first_after (limit - (t + 1)) (may_end k i x.ctl (t + 1)) (t + 1)),
     )
 
--- an item is admitted after the one before it is done
+-- an item is admitted in the done cycle of the one before it, or later
 pub admission_after : (s : Setup) (limit : ℕ) (h : Story) → h.done ≤ admission s limit h
 unfolding admission
 admission_after s limit h =
@@ -430,12 +444,14 @@ answered_by k x parcels t e =
     (and_first (nat_le (answer k x.stream (length x.stream.enters)) t)
     (not (x.half == 1 && parcels == 2) || nat_le (answer k x.stream (length x.stream.enters + 1)) t) e)
 
+-- where the words of the next instruction are there, its first word has answered
 there_by : (s : Setup) (h : Story) (t : ℕ) → words_there s h t ≡ true
     → answer (settings_of s) h.times.stream (length h.times.stream.enters) ≤ t
 unfolding words_there
 there_by s h t e = answered_by (settings_of s) h.times
     (item_of (settings_of s) h.times.ctl (view_with s h (brought_parcels s h))).parcels t e
 
+-- no word of a stream answers before what was requested before that stream
 first_answered : (k : Settings) (x : Stream) (j t : ℕ) → answer k x j ≤ t → x.before.answer ≤ t
 first_answered k x j t h = omega (arith, h, (first_issue k x).1, issue_mono k x 0 j (omega arith), after_issue k x j)
 
@@ -463,6 +479,7 @@ unfolding after_event
 event_fresh k d v i pc x turns late z =
     marks_fresh k i.fences i.redirects (ctl_after x.ctl v) d pc x.stream turns late z
 
+-- an item that is done leaves a fresh story: a dummy leaves the stream, an event may redirect it
 ended_fresh : (s : Setup) (h : Story) (o : Option Choice) (i : Item) (d : ℕ) (y : Story)
     → (i.fences ≡ true → i.redirects ≡ true) → (i.fences ≡ true → y.times.stream.before.answer ≤ d)
     → IsFreshAt y.times.stream d → IsFreshStory (ended_by s h o i d y)
@@ -477,6 +494,7 @@ pub taken_state : (s : Setup) (t : ℕ) (h : Story) → (taken s t h).state ≡ 
 unfolding taken
 taken_state s t h = refl
 
+-- an admission leaves a fresh stream fresh, at any later cycle too
 taken_fresh : (s : Setup) (t d : ℕ) (h : Story) → IsFreshAt h.times.stream h.done → h.done ≤ d
     → IsFreshAt (taken s t h).times.stream d
 unfolding taken admitted
@@ -487,10 +505,12 @@ taken_fresh s t d h z late = record {
       omega (arith, z.start, late);
 }
 
+-- an admission leaves what the requests before the stream left
 taken_before : (s : Setup) (t : ℕ) (h : Story) → (taken s t h).times.stream.before ≡ h.times.stream.before
 unfolding taken admitted
 taken_before s t h = refl
 
+-- the item that is admitted at t is the one of its choice
 pub item_at_is : (s : Setup) (t : ℕ) (h : Story) → item_at s t h ≡ item_by s h (choice_at s t h)
 unfolding item_at
 item_at_is s t h = refl
@@ -514,6 +534,7 @@ continued_fresh s limit h low z =
     ))
     (taken_fresh s t d h z.at (omega (arith, after, admission_after s limit h)))
 
+-- the story's done cycle is that of the item that ended last
 continued_done : (s : Setup) (limit t : ℕ) (h : Story) → (continued s limit t h).done ≡ done_at s limit t h
 unfolding continued
 continued_done s limit t h = done_is (choice_at s t h)
@@ -523,6 +544,7 @@ continued_done s limit t h = done_is (choice_at s t h)
     done_is (Some choice) = refl
     done_is None = refl
 
+-- at reset there is neither a FENCE.I nor a fill, so the story is fresh
 opening_fresh : (s : Setup) → IsFreshStory (opening s)
 unfolding first_times
 opening_fresh s = record {
@@ -533,6 +555,7 @@ opening_fresh s = record {
   };
 }
 
+-- after any number of items that are done before limit the story is fresh
 story_fresh : (s : Setup) (limit n : ℕ) → (story_after s limit n).done < limit → IsFreshStory (story_after s limit n)
 unfolding story_after
 story_fresh s limit zero low = opening_fresh s
@@ -562,6 +585,7 @@ half_two true true c p q e = e
 half_two true false c p q e = let no_ : true ≡ false = sym q in cc
 half_two false b c p q e = let no_ : true ≡ false = sym p in cc
 
+-- the word of the second parcel has answered, be it the first parcel's word or the next one
 second_by : (k : Settings) (x : Times) (parcels t : ℕ) → has_answered k x parcels t ≡ true → parcels ≡ 2 → x.half < 2
     → answer k x.stream (length x.stream.enters + x.half) ≤ t
 unfolding has_answered
@@ -581,6 +605,7 @@ second_by k x parcels t e two low =
           omega (arith, answered_by k x parcels t e, ap (answer k x.stream) same)
     ]
 
+-- so where the words of an instruction of two parcels are there, the second parcel's has answered
 there_second : (s : Setup) (h : Story) (t : ℕ) → words_there s h t ≡ true
     → (item_by s h (Some (brought_parcels s h))).parcels ≡ 2 → h.times.half < 2
     → answer (settings_of s) h.times.stream (length h.times.stream.enters + h.times.half) ≤ t
@@ -595,11 +620,13 @@ half_after_by : (r : Bool) (target half : ℕ) → half < 2 → half_after (targ
 half_after_by true target half h = omega arith
 half_after_by false target half h = h
 
+-- an event that redirects sets the half by its target, and any other leaves it
 event_half : (k : Settings) (d : ℕ) (v : View) (i : Item) (pc : ℕ) (x : Times) → x.half < 2
     → (after_event k d v i pc x).half < 2
 unfolding after_event
 event_half k d v i pc x h = half_after_by i.redirects pc x.half h
 
+-- a dummy leaves the half, and an event leaves 0 or 1
 ended_half : (s : Setup) (h : Story) (o : Option Choice) (i : Item) (d : ℕ) (y : Story) → y.times.half < 2
     → (ended_by s h o i d y).times.half < 2
 ended_half s h (Some choice) i d y low =
@@ -607,19 +634,23 @@ ended_half s h (Some choice) i d y low =
     (step_with (lines_in (settings_of s)) h.state choice d).next.pc y.times low
 ended_half s h None i d y low = low
 
+-- an admission moves the half by the item's parcels, modulo 2
 taken_half : (s : Setup) (t : ℕ) (h : Story) → (taken s t h).times.half < 2
 unfolding taken admitted
 taken_half s t h = omega arith
 
+-- so it is 0 or 1 after each item
 pub continued_half : (s : Setup) (limit t : ℕ) (h : Story) → (continued s limit t h).times.half < 2
 unfolding continued
 continued_half s limit t h =
     ended_half s h (choice_at s t h) (item_at s t h) (done_at s limit t h) (taken s t h) (taken_half s t h)
 
+-- at reset it is the half of its word that the entry is in
 opening_half : (s : Setup) → (opening s).times.half < 2
 unfolding first_times
 opening_half s = omega arith
 
+-- after any number of items the half is 0 or 1
 pub story_half : (s : Setup) (limit n : ℕ) → (story_after s limit n).times.half < 2
 unfolding story_after
 story_half s limit zero = opening_half s
@@ -631,6 +662,7 @@ story_half s limit (suc n) = continued_half s limit (admission s limit (story_af
 ready_there : (kind : Kind) (words : Bool) → kind ≡ AnInstruction → is_ready kind words ≡ true → words ≡ true
 ready_there kind words e ready = ap (λ u. is_ready u words) (sym e) ∙ ready
 
+-- where a real instruction is admitted, the item is that of the parcels brought
 instruction_item : (s : Setup) (t : ℕ) (h : Story) → kind_of s t h ≡ AnInstruction
     → item_at s t h ≡ item_by s h (Some (brought_parcels s h))
 instruction_item s t h e = item_at_is s t h ∙ ap (λ kind. item_by s h (choice_by s h kind)) e

@@ -70,6 +70,7 @@ load_by k s op rd rs1 imm addr next n (Some at) error = refl
 load_by k s op rd rs1 imm addr next n None (Some at) = refl
 load_by k s op rd rs1 imm addr next n None None = λ v e. refl
 
+-- a load leaves memory, whether it retires or traps
 load_memory : (k : Settings) (s : State) (op : LoadOp) (rd rs1 imm addr next n : ℕ)
     → HasMemory k s (Load op rd rs1 imm) n (load s op rd addr next)
 unfolding load
@@ -77,6 +78,7 @@ load_memory k s op rd rs1 imm addr next n =
     load_by k s op rd rs1 imm addr next n (refused_at s.csrs addr (size_of op) Reads)
     (error_at s.memory.ram addr (size_of op))
 
+-- where memory is that of the portions, a store ends so: refused, not answered or done
 store_by : (k : Settings) (s : State) (size rs1 rs2 imm next n : ℕ) (refused error : Option ℕ)
     → (store_with s size ((reg s rs1 + imm) % 2 ^ 32) (reg s rs2) next refused error).memory
     ≡ leaves true (portions_at k (ctl_of s.csrs) ((reg s rs1 + imm) % 2 ^ 32) size Writes)
@@ -90,6 +92,7 @@ store_by k s size rs1 rs2 imm next n None None h =
     λ v e. h ∙ ap (λ o. leaves true (portions_for k (ctl_of s.csrs) (Some (Store size rs1 rs2 imm)) o)
     (cut_access ((reg s rs1 + imm) % 2 ^ 32) size (reg s rs2)) s.memory) (sym e)
 
+-- so a store leaves what its portions leave, where the state's RAM is that of the settings
 store_memory : (k : Settings) (s : State) (size rs1 rs2 imm next n : ℕ) → s.memory.ram ≡ k.ram
     → HasMemory k s (Store size rs1 rs2 imm) n (store s size ((reg s rs1 + imm) % 2 ^ 32) (reg s rs2) next)
 unfolding store
@@ -98,6 +101,7 @@ store_memory k s size rs1 rs2 imm next n e =
     (error_at s.memory.ram ((reg s rs1 + imm) % 2 ^ 32) size)
     (store_leaves k s size ((reg s rs1 + imm) % 2 ^ 32) (reg s rs2) next e)
 
+-- an access leaves memory whether it writes, only reads or is illegal
 csr_by : (k : Settings) (s : State) (op : CsrOp) (rd src : ℕ) (imm : Bool) (addr source word next old n : ℕ)
     (w1 w2 : Bool) (ctl : Option ℕ)
     → HasMemory k s (Csr op rd src imm addr) n (
@@ -112,6 +116,7 @@ csr_by k s op rd src imm addr source word next old n false w2 ctl = λ v e. refl
 csr_by k s op rd src imm addr source word next old n true false ctl = refl
 csr_by k s op rd src imm addr source word next old n true true ctl = λ v e. refl
 
+-- so it does where its address names a register that can be read, and where not
 csr_found : (k : Settings) (s : State) (op : CsrOp) (rd src : ℕ) (imm : Bool) (addr source word next n : ℕ)
     (o : Option ℕ) → HasMemory k s (Csr op rd src imm addr) n (csr_with s op rd src source addr word next o)
 csr_found k s op rd src imm addr source word next n None = refl
@@ -119,21 +124,25 @@ csr_found k s op rd src imm addr source word next n (Some old) =
     csr_by k s op rd src imm addr source word next old n (writes op src) (csr_can_write s.csrs addr)
     (if is_control_at addr then Some (written op old source) else None)
 
+-- an access to a CSR leaves memory
 csr_memory : (k : Settings) (s : State) (op : CsrOp) (rd src : ℕ) (imm : Bool) (addr source word next lines n : ℕ)
     → HasMemory k s (Csr op rd src imm addr) n (csr_access s op rd src source addr word next lines)
 unfolding csr_access
 csr_memory k s op rd src imm addr source word next lines n =
     csr_found k s op rd src imm addr source word next n (csr_read s.csrs addr lines)
 
+-- in user mode MRET is a trap, which leaves memory
 return_by : (k : Settings) (s : State) (word n : ℕ) (machine : Bool) (x : Executed) → HasMemory k s Mret n x
     → HasMemory k s Mret n (if not machine then illegal s word else x)
 return_by k s word n true x h = h
 return_by k s word n false x h = refl
 
+-- MRET leaves memory in either mode
 return_memory : (k : Settings) (s : State) (word n : ℕ) → HasMemory k s Mret n (return_from_trap s word)
 unfolding return_from_trap
 return_memory k s word n = return_by k s word n s.csrs.machine _ (λ v e. refl)
 
+-- WFI leaves memory, whether it may wait or is illegal
 wait_memory : (k : Settings) (s : State) (word next n : ℕ) (may : Bool)
     → HasMemory k s Wfi n (if may then plain s 0 0 next else illegal s word)
 wait_memory k s word next n true = λ v e. refl
@@ -182,6 +191,7 @@ none_left (Some a) m = left_by a.store
     left_by true = refl
     left_by false = refl
 
+-- an instruction whose view has no address has no portions
 no_portions : (k : Settings) (c : Ctl) (o : Option Insn) → portions_for k c o None ≡ NoPortion
 no_portions k c None = refl
 no_portions k c (Some insn) = none_by insn
@@ -223,6 +233,7 @@ decoded_keeps k s c word length lines (Some insn) i e =
     ended_keeps k s c word (operands s insn) (execute s insn word length lines) (execute s insn word length lines).done
     insn i (row_memory k s insn word length lines (parcels_of word) e)
 
+-- an unsound parcel is a trap that leaves memory, and a word that was fetched is decoded
 fetched_keeps : (k : Settings) (s : State) (c lines : ℕ) (f : Fetched) → s.memory.ram ≡ k.ram
     → Keeps k (ctl_of s.csrs) s (after_fetch s c lines f)
 unfolding finished
@@ -230,6 +241,7 @@ fetched_keeps k s c lines (Unsound addr) e = trap_keeps k s c 0 1 addr refl
 fetched_keeps k s c lines (Instruction word length) e =
     decoded_keeps k s c word length lines (instruction_of word) refl e
 
+-- an instruction leaves what its portions leave, whichever two parcels it is fetched from
 instruction_keeps : (k : Settings) (s : State) (first second c lines : ℕ) → s.memory.ram ≡ k.ram
     → Keeps k (ctl_of s.csrs) s (instruction s first second c lines)
 unfolding instruction
@@ -252,15 +264,18 @@ moved_ctl : (s : State) (d : ℕ) → ctl_of (at_cycle s d).csrs ≡ ctl_of s.cs
 unfolding counters_after
 moved_ctl s d = refl
 
+-- the access of a load or store doesn't depend on the counters
 access_by_insn : (s : State) (d : ℕ) (insn : Insn) → access_of (at_cycle s d) (Some insn) ≡ access_of s (Some insn)
 access_by_insn s d (Load op rd rs1 imm) = refl
 access_by_insn s d (Store size rs1 rs2 imm) = refl
 access_by_insn s d _ = refl
 
+-- nor does that of a word that may fit no instruction
 moved_access : (s : State) (d : ℕ) (o : Option Insn) → access_of (at_cycle s d) o ≡ access_of s o
 moved_access s d None = refl
 moved_access s d (Some insn) = access_by_insn s d insn
 
+-- a step leaves of memory what the portions of its item leave
 pub step_keeps : (k : Settings) (s : State) (choice : Choice) (d : ℕ) → s.memory.ram ≡ k.ram
     → Keeps k (ctl_of s.csrs) s (step_with (lines_in k) s choice d)
 step_keeps k s choice d e =
@@ -318,6 +333,7 @@ continued_written s limit t h c ram old =
     ended_written s h (choice_at s t h) (item_at s t h) (done_at s limit t h) h.times.made (t + 1) (taken s t h) c ram
     old (taken_state s t h) (taken_writes s t h)
 
+-- at reset nothing is written, and memory is the image's
 opening_written : (s : Setup) → IsWritten s (opening s)
 unfolding reset_state
 opening_written s = refl
@@ -380,6 +396,7 @@ with_before waits n e stop portions None ws h z =
     later_before ws e (done_by waits portions n e stop) (done_after_by waits portions n e stop h) z
 with_before waits n e stop portions (Some a) ws h z = portions_before waits n e stop a.store portions a ws h z
 
+-- the writes of a story with an admitted item are before that item's done
 taken_before : (s : Setup) (limit t : ℕ) (h : Story) → IsBefore h.writes (t + 1)
     → IsBefore (taken s t h).writes (done_at s limit t h)
 unfolding taken done_of
@@ -388,11 +405,13 @@ taken_before s limit t h z =
     (item_at s t h).portions (access_at s t h) h.writes
     (first_after (limit - (t + 1)) (may_end (settings_of s) (item_at s t h) h.times.ctl (t + 1)) (t + 1)) z
 
+-- an item that ends adds no write, so all of them are before its done
 ended_before : (s : Setup) (h : Story) (o : Option Choice) (i : Item) (d : ℕ) (y : Story) → IsBefore y.writes d
     → IsBefore (ended_by s h o i d y).writes (ended_by s h o i d y).done
 ended_before s h (Some choice) i d y z = z
 ended_before s h None i d y z = z
 
+-- so after one item more all writes are before the last done
 pub continued_before : (s : Setup) (limit t : ℕ) (h : Story) → h.done ≤ t → IsBefore h.writes h.done
     → IsBefore (continued s limit t h).writes (continued s limit t h).done
 unfolding continued

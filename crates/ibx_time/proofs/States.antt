@@ -86,6 +86,7 @@ plain_end : (ram : Ram) (s : State) (rd value next : ℕ) → IsGood ram s → v
 plain_end ram s rd value next g v e l =
     record { done = (e, (l, v)); memory = memory_of ram s g; csrs = tick_keeps s.csrs true None g.csrs }
 
+-- a trap ends well where its value is a word
 trap_end : (ram : Ram) (s : State) (cause tval addr : ℕ) → IsGood ram s → tval < 2 ^ 32
     → IsGoodEnd ram (trap s cause tval addr)
 trap_end ram s cause tval addr g l =
@@ -103,9 +104,11 @@ reg_low ram s n g = low_by (n == 0)
 sum_low : (n : ℕ) → n % 2 ^ 32 < 2 ^ 32
 sum_low n = mod_below n (2 ^ 32) (omega arith)
 
+-- the sum of two even numbers is even, cut to a word too
 sum_even : (a b : ℕ) → a % 2 ≡ 0 → b % 2 ≡ 0 → (a + b) % 2 ^ 32 % 2 ≡ 0
 sum_even a b ha hb = omega arith
 
+-- a jump target whose lowest bit is cleared is even
 half_even : (n : ℕ) → n / 2 * 2 % 2 ≡ 0
 half_even n = omega arith
 
@@ -128,11 +131,13 @@ bytes_keep ram m addr from to value g = record {
       (mod_below (value / 256 ^ offset_from addr a) 256 (omega arith)) (g.bytes a);
 }
 
+-- of two good memories either is good
 stored_by : (ram : Ram) (x y : Memory) (b : Bool) → IsGoodMemory ram x → IsGoodMemory ram y
     → IsGoodMemory ram (if b then x else y)
 stored_by ram x y true hx hy = hx
 stored_by ram x y false hx hy = hy
 
+-- a store leaves good memory, with its first portion alone or with both
 pub stored_keeps : (ram : Ram) (m : Memory) (addr size value : ℕ) → IsGoodMemory ram m
     → IsGoodMemory ram (stored m addr size value)
 unfolding stored
@@ -156,12 +161,14 @@ portion_low : (addr : ℕ) (second : Bool) → addr < 2 ^ 32 → portion_addr ad
 portion_low addr false h = h
 portion_low addr true h = sum_low ((addr / 4 + 1) * 4)
 
+-- the address of the portion that fails, if one does, is a word
 some_if : (b c : Bool) (x y : ℕ) → x < 2 ^ 32 → y < 2 ^ 32
     → IfSome (if b then Some x else if c then Some y else None) IsWord
 some_if true c x y hx hy = hx
 some_if false true x y hx hy = hy
 some_if false false x y hx hy = tt
 
+-- the address that protection refuses is a word
 refused_low : (csrs : CsrValues) (addr size : ℕ) (kind : AccessKind) → addr < 2 ^ 32
     → IfSome (refused_at csrs addr size kind) IsWord
 unfolding refused_at
@@ -169,6 +176,7 @@ refused_low csrs addr size kind h =
     some_if (is_refused csrs addr size kind false) (has_second addr size && is_refused csrs addr size kind true)
     (portion_addr addr false) (portion_addr addr true) (portion_low addr false h) (portion_low addr true h)
 
+-- the address that no memory answers is a word
 error_low : (ram : Ram) (addr size : ℕ) → addr < 2 ^ 32 → IfSome (error_at ram addr size) IsWord
 unfolding error_at
 error_low ram addr size h =
@@ -195,6 +203,7 @@ load_by ram s op rd addr next None None g r f e l = record {
   csrs = tick_keeps s.csrs true None g.csrs;
 }
 
+-- so a load of a valid state ends well
 load_end : (ram : Ram) (s : State) (op : LoadOp) (rd addr next : ℕ) → IsGood ram s → addr < 2 ^ 32 → next % 2 ≡ 0
     → next < 2 ^ 32 → IsGoodEnd ram (load s op rd addr next)
 unfolding load
@@ -202,6 +211,7 @@ load_end ram s op rd addr next g h e l =
     load_by ram s op rd addr next (refused_at s.csrs addr (size_of op) Read) (error_at s.memory.ram addr (size_of op))
     g (refused_low s.csrs addr (size_of op) Read h) (error_low s.memory.ram addr (size_of op) h) e l
 
+-- a store ends well whether it is refused, not answered or done
 store_by : (ram : Ram) (s : State) (size addr value next : ℕ) (refused error : Option ℕ) → IsGood ram s
     → IfSome refused IsWord → IfSome error IsWord → next % 2 ≡ 0 → next < 2 ^ 32
     → IsGoodEnd ram (store_with s size addr value next refused error)
@@ -217,6 +227,7 @@ store_by ram s size addr value next None None g r f e l = record {
   csrs = tick_keeps s.csrs true None g.csrs;
 }
 
+-- so a store of a valid state ends well
 store_end : (ram : Ram) (s : State) (size addr value next : ℕ) → IsGood ram s → addr < 2 ^ 32 → next % 2 ≡ 0
     → next < 2 ^ 32 → IsGoodEnd ram (store s size addr value next)
 unfolding store
@@ -245,6 +256,7 @@ csr_by ram s op rd addr source word next old true true ctl g o so w e l = record
       (tick_keeps s.csrs true (Some addr) g.csrs);
 }
 
+-- an access ends well with what was read, and is illegal where nothing can be read
 csr_found : (ram : Ram) (s : State) (op : CsrOp) (rd src source addr word next : ℕ) (o : Option ℕ) → IsGood ram s
     → IfSome o IsWord → source < 2 ^ 32 → word < 2 ^ 32 → next % 2 ≡ 0 → next < 2 ^ 32
     → IsGoodEnd ram (csr_with s op rd src source addr word next o)
@@ -253,6 +265,7 @@ csr_found ram s op rd src source addr word next (Some old) g o so w e l =
     csr_by ram s op rd addr source word next old (writes op src) (csr_can_write s.csrs addr)
     (if is_control_at addr then Some (written op old source) else None) g o so w e l
 
+-- an access to a CSR ends well where the interrupt lines, which mip shows, are a word
 csr_end : (ram : Ram) (s : State) (op : CsrOp) (rd src source addr word next lines : ℕ) → IsGood ram s → lines < 2 ^ 32
     → source < 2 ^ 32 → word < 2 ^ 32 → next % 2 ≡ 0 → next < 2 ^ 32
     → IsGoodEnd ram (csr_access s op rd src source addr word next lines)
@@ -261,6 +274,7 @@ csr_end ram s op rd src source addr word next lines g h so w e l =
     csr_found ram s op rd src source addr word next (csr_read s.csrs addr lines) g
     (read_low s.csrs addr lines g.csrs h) so w e l
 
+-- MRET goes to mepc, which is an even word, and in user mode it traps
 return_by : (ram : Ram) (s : State) (word : ℕ) (machine : Bool) → IsGood ram s → word < 2 ^ 32
     → IsGoodEnd ram (
     if not machine then illegal s word else
@@ -276,16 +290,19 @@ return_by ram s word true g w = record {
 }
 return_by ram s word false g w = trap_end ram s 2 word 0 g w
 
+-- so MRET ends well in either mode
 return_end : (ram : Ram) (s : State) (word : ℕ) → IsGood ram s → word < 2 ^ 32
     → IsGoodEnd ram (return_from_trap s word)
 unfolding return_from_trap
 return_end ram s word g w = return_by ram s word s.csrs.machine g w
 
+-- WFI ends well, whether it may wait or is illegal
 wait_by : (ram : Ram) (s : State) (word next : ℕ) (may : Bool) → IsGood ram s → word < 2 ^ 32 → next % 2 ≡ 0
     → next < 2 ^ 32 → IsGoodEnd ram (if may then plain s 0 0 next else illegal s word)
 wait_by ram s word next true g w e l = plain_end ram s 0 0 next g (omega arith) e l
 wait_by ram s word next false g w e l = trap_end ram s 2 word 0 g w
 
+-- a branch ends well, taken or not, where both addresses are even words
 branch_end : (ram : Ram) (s : State) (target next : ℕ) (b : Bool) → IsGood ram s → target % 2 ≡ 0 → target < 2 ^ 32
     → next % 2 ≡ 0 → next < 2 ^ 32 → IsGoodEnd ram (plain s 0 0 (if b then target else next))
 branch_end ram s target next true g te tl e l = plain_end ram s 0 0 target g (omega arith) te tl
@@ -354,6 +371,7 @@ row_end ram s Wfi word length lines g f w e h =
 base_low : (mtvec : ℕ) → bit_and mtvec (2 ^ 32 - 1 - 0xff) < 2 ^ 32
 base_low mtvec = omega (arith, and_le_r mtvec (2 ^ 32 - 1 - 0xff))
 
+-- the base of the handlers is even, since its lowest byte is cleared
 base_even : (mtvec : ℕ) → bit_and mtvec (2 ^ 32 - 1 - 0xff) % 2 ≡ 0
 base_even mtvec = and_mod mtvec (2 ^ 32 - 1 - 0xff) 1 ∙ omega (arith, and_le_r (mtvec % 2 ^ 1) 0)
 
@@ -363,11 +381,13 @@ zero_stays : (regs : List ℕ) (n value : ℕ) (b : Bool) → (n == 0) ≡ b →
 zero_stays regs n value true e z = z
 zero_stays regs n value false e z = get_or-set_other regs n 0 value 0 (λ same. eqb-false n 0 e (sym same)) ∙ z
 
+-- a write of a register leaves as many of them
 count_stays : (regs : List ℕ) (n value : ℕ) (b : Bool)
     → length (if b then regs else slice_set regs n value) ≡ length regs
 count_stays regs n value true = refl
 count_stays regs n value false = length-set regs n value
 
+-- a write of a word leaves registers that are words
 low_stays : (regs : List ℕ) (n value : ℕ) (b : Bool) → value < 2 ^ 32 → All (λ v. v < 2 ^ 32) regs
     → All (λ v. v < 2 ^ 32) (if b then regs else slice_set regs n value)
 low_stays regs n value true h z = z
@@ -379,6 +399,7 @@ unfolding enter_target
 target_even r cause true = sum_even (bit_and r.mtvec (2 ^ 32 - 1 - 0xff)) (4 * cause) (base_even r.mtvec) (omega arith)
 target_even r cause false = base_even r.mtvec
 
+-- the address of a handler is a word, with vectored interrupts too
 target_low : (r : TrapRegs) (cause : ℕ) (irq : Bool) → enter_target r cause irq < 2 ^ 32
 unfolding enter_target
 target_low r cause true = sum_low (bit_and r.mtvec (2 ^ 32 - 1 - 0xff) + 4 * cause)
@@ -409,11 +430,13 @@ ended_good ram s c word ops after (Traps cause tval addr) g d m v = record {
   bytes = m.bytes;
 }
 
+-- the state after an instruction that ends well is valid
 finished_good : (ram : Ram) (s : State) (c word : ℕ) (ops : Option (ℕ × ℕ)) (x : Executed) → IsGood ram s
     → IsGoodEnd ram x → IsGood ram (finished s.pc s.regs c word ops x).next
 unfolding finished
 finished_good ram s c word ops x g e = ended_good ram s c word ops x x.done g e.done e.memory e.csrs
 
+-- so it is after a decoded word, and after one that fits no row and is illegal
 decoded_good : (ram : Ram) (s : State) (c word length lines : ℕ) (o : Option Insn) → IsGood ram s
     → IfSome o IsWellFormed → word < 2 ^ 32 → length % 2 ≡ 0 → lines < 2 ^ 32
     → IsGood ram (decoded s c word length lines o).next
@@ -448,6 +471,7 @@ fetch_by ram s first second true false c g h1 h2 = (omega arith, refl)
 fetch_by ram s first second true true false g h1 h2 = sum_low (s.pc + 2)
 fetch_by ram s first second true true true g h1 h2 = (omega arith, refl)
 
+-- two parcels of a valid state fetch a word of even length, or the address of an unsound parcel
 pub fetch_good : (ram : Ram) (s : State) (first second : ℕ) → IsGood ram s → first < 2 ^ 16 → second < 2 ^ 16
     → GoodFetched (fetch s first second)
 unfolding fetch
@@ -462,6 +486,7 @@ unfolding instruction
 instruction_good ram s first second c lines g h1 h2 h =
     fetched_good ram s c lines (fetch s first second) g (fetch_good ram s first second g h1 h2) h
 
+-- an interrupt leaves a valid state at an even handler
 interrupted_good : (ram : Ram) (s : State) (number c : ℕ) → IsGood ram s → IsGood ram (interrupted s number c).next
 unfolding interrupted
 interrupted_good ram s number c g = record {
@@ -476,6 +501,7 @@ interrupted_good ram s number c g = record {
   bytes = g.bytes;
 }
 
+-- a valid state is valid with its counters moved to a cycle
 pub moved_good : (ram : Ram) (s : State) (c : ℕ) → IsGood ram s → IsGood ram (at_cycle s c)
 moved_good ram s c g = record {
   pc_even = g.pc_even;

@@ -41,11 +41,13 @@ image_good s ok = record {
       [ true ↦ ok.bytes a | false ↦ omega arith ];
 }
 
+-- of two good memories, the one that a test picks is good
 either_good : (ram : Ram) (x y : Memory) (b : Bool) → IsGoodMemory ram x → IsGoodMemory ram y
     → IsGoodMemory ram (if b then x else y)
 either_good ram x y true hx hy = hx
 either_good ram x y false hx hy = hy
 
+-- good memory stays good in every cycle, whatever is written to it
 pub at_good : (ram : Ram) (m : Memory) (ws : List Write) (t : ℕ) → IsGoodMemory ram m
     → IsGoodMemory ram (memory_at m ws t)
 unfolding memory_at
@@ -59,6 +61,7 @@ half_low : (ram : Ram) (m : Memory) (addr : ℕ) → IsGoodMemory ram m → read
 half_low ram m addr g =
     two_bytes (λ k. read_byte m ((addr + k) % 2 ^ 32)) (λ k. read_low_byte m ((addr + k) % 2 ^ 32) g.bytes)
 
+-- a halfword that a story brings has 16 bits
 brought_low : (s : Setup) (h : Story) (j addr : ℕ) → IsSane s → brought s h j addr < 2 ^ 16
 brought_low s h j addr ok =
     half_low s.image.ram (memory_at (image_memory s.image) h.writes
@@ -66,6 +69,7 @@ brought_low s h j addr ok =
     (at_good s.image.ram (image_memory s.image) h.writes (past (settings_of s) h.times.stream (suc j)).grant
     (image_good s ok))
 
+-- so both parcels of the next instruction have 16 bits
 pub brought_halves : (s : Setup) (h : Story) → IsSane s → AreParcels (brought_parcels s h)
 unfolding brought_parcels
 brought_halves s h ok = (
@@ -92,6 +96,7 @@ ended_good : (s : Setup) (h : Story) (o : Option Choice) (i : Item) (d : ℕ) (y
 ended_good s h (Some choice) i d y ok p g e = step_good s.image.ram (settings_of s) h.state choice d g p (ok.lines d)
 ended_good s h None i d y ok p g e = subst (IsGood s.image.ram) (sym e) g
 
+-- the state is valid after one item more, whatever is admitted
 pub continued_good : (s : Setup) (limit t : ℕ) (h : Story) → IsSane s → IsGood s.image.ram h.state
     → IsGood s.image.ram (continued s limit t h).state
 unfolding continued
@@ -103,6 +108,7 @@ zeros : (n : ℕ) → All (λ v. v < 2 ^ 32) (replicate n 0)
 zeros zero = All-nil (λ v. v < 2 ^ 32)
 zeros (suc n) = All-cons (λ v. v < 2 ^ 32) 0 (replicate n 0) (omega arith) (zeros n)
 
+-- the registers at reset are within their widths
 reset_values : (entry : ℕ) → IsValues (csr_reset entry)
 unfolding csr_reset
 reset_values entry = record {
@@ -122,6 +128,7 @@ reset_values entry = record {
   minstret = omega arith;
 }
 
+-- so the state at reset is valid
 reset_good : (s : Setup) → IsSane s → IsGood s.image.ram (reset_state s.image)
 unfolding reset_state
 reset_good s ok =

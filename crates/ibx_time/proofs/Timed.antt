@@ -47,6 +47,7 @@ found_by : (n : ℕ) (p : ℕ → Bool) (c : ℕ) (a : Bool) → p c ≡ a
 found_by n p c true e more h = e
 found_by n p c false e more h = more (omega (arith, h))
 
+-- a search that ends before the end of its range ends where the test holds
 pub first_found : (n : ℕ) (p : ℕ → Bool) (c : ℕ) → first_from n p c < c + n → p (first_from n p c) ≡ true
 unfolding first_from
 first_found zero p c h = absurd (omega arith)
@@ -69,7 +70,7 @@ pub record HasViews (s : Setup) : Type 0 where
 abbrev views : List Event → List View
 views events = map view_of events
 
--- the first view of what is told from a story on, or the last program counter, is the story's program counter
+-- the events that are told, by whether the item is done before limit
 abbrev told_if : Bool → Option Event → List Event → List Event
 told_if true e rest = with_event e rest
 told_if false e rest = []
@@ -89,6 +90,7 @@ unfolding told
 told_is s limit n h true e = rw e refl
 told_is s limit n h false e = rw e refl
 
+-- the story goes on with the rest where the item is done before limit, and else it is left as it is
 pub left_is : (s : Setup) (limit n : ℕ) (h : Story) → (b : Bool)
     → nat_lt (done_at s limit (admission s limit h) h) limit ≡ b
     → (told s limit (suc n) h).story ≡ story_if b (told s limit n (continued s limit (admission s limit h) h)).story h
@@ -96,7 +98,7 @@ unfolding told
 left_is s limit n h true e = rw e refl
 left_is s limit n h false e = rw e refl
 
--- a list of views and a program counter that it leaves
+-- the program counter of the first event, or the one that is left where there is none
 abbrev first_pc : List Event → ℕ → ℕ
 first_pc events pc = pc_after (views events) pc
 
@@ -109,6 +111,7 @@ pc_by s f limit n t h (Some choice) rest pc more =
     ap (λ (v : View). v.pc) (f.same h choice (done_at s limit t h)) ∙ f.pc h choice
 pc_by s f limit n t h None rest pc more = more
 
+-- one item more in front, whether it is done before limit or not
 pc_step : (s : Setup) (f : HasViews s) (limit n : ℕ) (h : Story) (b : Bool)
     → nat_lt (done_at s limit (admission s limit h) h) limit ≡ b
     → first_pc (told s limit n (continued s limit (admission s limit h) h)).events
@@ -143,6 +146,7 @@ first_low zero p c = omega arith
 first_low (suc n) p c = elim (p c) as (λ b. c ≤ (if b then c else first_from n p (c + 1)))
     [ true ↦ omega arith | false ↦ omega (arith, first_low n p (c + 1)) ]
 
+-- an item whose end without a portion is after its admission is done after it with portions too
 late_by : (k : Settings) (portions : Portions) (n t stop : ℕ) → t < stop
     → t < done_by k.plan.dwaits portions n (t + 1) stop
 unfolding done_by answer_time grant_time
@@ -152,6 +156,7 @@ late_by k OneBad n t stop h = omega arith
 late_by k Two n t stop h = omega arith
 late_by k TwoBad n t stop h = omega arith
 
+-- an item is done after its admission
 pub late : (k : Settings) (limit t : ℕ) (i : Item) (x : Times) → t < done_of k limit t i x
 unfolding done_of
 late k limit t i x = late_by k i.portions x.made t (stop_of k limit i x.ctl (t + 1))
@@ -186,6 +191,7 @@ is_due_at : (k : Settings) (x : Times) (t : ℕ) → kind_at k x t ≡ ADummy �
 unfolding kind_at
 is_due_at k x t e = due_of (pending_in (values_of x.ctl) (lines_in k t)) (is_due_in x.ctl x.dummies) e
 
+-- an item is ready where its kind is one that is ready
 ready_as : (kind k2 : Kind) (w : Bool) → kind ≡ k2 → is_ready k2 w ≡ true → is_ready kind w ≡ true
 ready_as kind k2 w e r = subst (λ v. is_ready v w ≡ true) (sym e) r
 
@@ -202,6 +208,7 @@ module _ (s : Setup) (f : HasViews s) (limit : ℕ) (h : Story) where
       (always_ready k h.times (admission s limit h) (words_for k h.times v (admission s limit h))
       (is_due_at k h.times (admission s limit h) e))
 
+  -- the view of an interrupt has no words that are there, since it waits for none
   no_words : (number u : ℕ) → words_for (settings_of s) h.times (view_with s h (Interrupt number)) u ≡ false
   unfolding words_for
   no_words number u = rw (f.interrupt h number) refl
@@ -219,6 +226,7 @@ module _ (s : Setup) (f : HasViews s) (limit : ℕ) (h : Story) where
       (ready_as (kind_at k h.times (admission s limit h)) (AnInterrupt number)
       (words_for k h.times v (admission s limit h)) e refl)
 
+  -- a real instruction's view waits for just the words that the history waits for
   same_words : (u : ℕ) → words_for (settings_of s) h.times (view_with s h (brought_parcels s h)) u ≡ words_there s h u
   unfolding words_for words_there
   same_words u = rw (f.real h) refl
@@ -277,15 +285,18 @@ module _ (s : Setup) (h : Story) (t : ℕ) where
   dummy_by v kind e =
       subst (λ x. item_by_view (settings_of s) h.times v (is_dummy x) ≡ item_by s h (choice_by s h x)) (sym e) refl
 
+  -- where a dummy is admitted its item is the history's, whatever the view of the next event
   dummy_item_is : (v : View) → kind_of s t h ≡ ADummy → item_for (settings_of s) t h.times v ≡ item_at s t h
   unfolding item_for item_at
   dummy_item_is v e = dummy_by v (kind_of s t h) e
 
+  -- where no dummy is admitted the item is that of the view of the choice
   event_by_choice : (choice : Choice) (kind : Kind) → is_dummy kind ≡ false → choice_by s h kind ≡ Some choice
       → item_by_view (settings_of s) h.times (view_with s h choice) (is_dummy kind) ≡ item_by s h (choice_by s h kind)
   event_by_choice choice kind e o =
       ap (λ b. item_by_view (settings_of s) h.times (view_with s h choice) b) e ∙ sym (ap (λ z. item_by s h z) o)
 
+  -- so an event's item by its view is the one that the history admits
   event_item_is : (choice : Choice) → is_dummy (kind_of s t h) ≡ false → choice_at s t h ≡ Some choice
       → item_for (settings_of s) t h.times (view_with s h choice) ≡ item_at s t h
   unfolding item_for item_at
@@ -300,6 +311,7 @@ module _ (s : Setup) (h : Story) (t : ℕ) where
   ended_dummy : (o : Option Choice) (i : Item) (d : ℕ) (y : Story) → o ≡ None → (ended_by s h o i d y).times ≡ y.times
   ended_dummy o i d y e = subst (λ z. (ended_by s h z i d y).times ≡ y.times) (sym e) refl
 
+  -- an event leaves the times that its view, its item and its program counter give
   ended_event : (o : Option Choice) (choice : Choice) (i : Item) (d : ℕ) (y : Story) → o ≡ Some choice
       → (ended_by s h o i d y).times ≡ after_event (settings_of s) d (view_with s h choice) i
       (ended_by s h o i d y).state.pc y.times
@@ -307,6 +319,7 @@ module _ (s : Setup) (h : Story) (t : ℕ) where
       subst (λ z. (ended_by s h z i d y).times
       ≡ after_event (settings_of s) d (view_with s h choice) i (ended_by s h z i d y).state.pc y.times) (sym e) refl
 
+  -- the done cycle is set by an event and by a dummy alike
   ended_done : (o : Option Choice) (i : Item) (d : ℕ) (y : Story) → (ended_by s h o i d y).done ≡ d
   ended_done None i d y = refl
   ended_done (Some choice) i d y = refl
@@ -321,6 +334,7 @@ module _ (s : Setup) (h : Story) (t : ℕ) where
       → admitted (kind_of s t h) t (item_for (settings_of s) t h.times v) h.times ≡ (taken s t h).times
   admitted_as v e = ap (λ i. admitted (kind_of s t h) t i h.times) e ∙ sym taken_times
 
+  -- the timeline's times after the item are the story's with it, ended at its done cycle
   times_for_is : (limit : ℕ) (v : View) (pc qc : ℕ) (b : Bool) → is_dummy (kind_of s t h) ≡ b
       → item_for (settings_of s) t h.times v ≡ item_at s t h → pc ≡ qc
       → times_for (settings_of s) limit t h.times v pc
@@ -332,14 +346,17 @@ module _ (s : Setup) (h : Story) (t : ℕ) where
       (admitted (kind_of s t h) t (item_for (settings_of s) t h.times v) h.times) (taken s t h).times e
       (ap (λ i. done_of (settings_of s) limit t i h.times) same) same at (admitted_as v same)
 
+  -- the story goes on from the done cycle of the item
   continued_done : (limit : ℕ) → (continued s limit t h).done ≡ done_at s limit t h
   unfolding continued
   continued_done limit = ended_done (choice_at s t h) (item_at s t h) (done_at s limit t h) (taken s t h)
 
+  -- after a dummy the times are those with it, as it was admitted
   continued_dummy : (limit : ℕ) → choice_at s t h ≡ None → (continued s limit t h).times ≡ (taken s t h).times
   unfolding continued
   continued_dummy limit e = ended_dummy (choice_at s t h) (item_at s t h) (done_at s limit t h) (taken s t h) e
 
+  -- after an event they are what its view makes of the times with its item
   continued_event : (limit : ℕ) (choice : Choice) → choice_at s t h ≡ Some choice
       → (continued s limit t h).times ≡ after_event (settings_of s) (done_at s limit t h) (view_with s h choice)
       (item_at s t h) (continued s limit t h).state.pc (taken s t h).times
@@ -366,6 +383,7 @@ module _ (s : Setup) (f : HasViews s) (limit n : ℕ) (h : Story) where
       ≡ cycles_from (settings_of s) limit n d (continued s limit t h).times (views rest) pc)
       (continued_done s h t limit) r
 
+  -- the cycle of an event stands before those of the rest, by its view in front of theirs
   event_goes : (t : ℕ) (choice : Choice) (rest : List Event) (pc : ℕ) → choice_at s t h ≡ Some choice
       → is_dummy (kind_of s t h) ≡ false
       → admission_for (settings_of s) limit h.done h.times (view_with s h choice) ≡ t
@@ -384,6 +402,7 @@ module _ (s : Setup) (f : HasViews s) (limit n : ℕ) (h : Story) where
       (times_for_is s h t limit v (first_pc rest pc) (continued s limit t h).state.pc false real same pcs
       ∙ sym (continued_event s h t limit choice cho)) less)
 
+  -- a dummy adds no cycle, and the view of the next event stays in front
   dummy_goes : (t : ℕ) (e : Event) (rest : List Event) (pc : ℕ) → choice_at s t h ≡ None → kind_of s t h ≡ ADummy
       → admission_for (settings_of s) limit h.done h.times (view_of e) ≡ t → nat_lt (done_at s limit t h) limit ≡ true
       → Rest t (e ∷ rest) pc → Goes (e ∷ rest) pc
@@ -399,6 +418,7 @@ module _ (s : Setup) (f : HasViews s) (limit n : ℕ) (h : Story) where
       (times_for_is s h t limit v (first_pc rest pc) (first_pc rest pc) true b same refl
       ∙ sym (continued_dummy s h t limit cho)) less)
 
+  -- no events have no cycles
   nothing_goes : (pc : ℕ) → Goes [] pc
   unfolding cycles_from
   nothing_goes pc = refl
@@ -410,6 +430,7 @@ module _ (s : Setup) (f : HasViews s) (limit n : ℕ) (h : Story) where
   dummy_all t [] pc cho kind adm less r = nothing_goes pc
   dummy_all t (e ∷ rest) pc cho kind adm less r = dummy_goes t e rest pc cho kind (adm (view_of e)) less r
 
+  -- an event and the rest behind it have the cycles of their views
   event_all : (t : ℕ) (choice : Choice) (rest : List Event) (pc : ℕ) → choice_at s t h ≡ Some choice
       → is_dummy (kind_of s t h) ≡ false
       → admission_for (settings_of s) limit h.done h.times (view_with s h choice) ≡ t
@@ -422,11 +443,13 @@ module _ (s : Setup) (f : HasViews s) (limit n : ℕ) (h : Story) where
       ap (λ c. c ∷ map cycle_of rest) (f.cycle h choice d) ∙ event_goes t choice rest pc cho real adm less pcs r
       ∙ ap (λ (v : View). cycles_from k limit (suc n) h.done h.times (v ∷ views rest) pc) (sym (f.same h choice d))
 
+  -- the event of an item is the one of its choice
   event_is : (t : ℕ) (o : Option Choice) → choice_at s t h ≡ o
       → event_at s limit t h ≡ event_by s h o (done_at s limit t h)
   unfolding event_at
   event_is t o e = ap (λ z. event_by s h z (done_at s limit t h)) e
 
+  -- so it is for an interrupt, a dummy and a real instruction in front of the rest
   by_kind : (rest : List Event) (pc : ℕ) (kind : Kind) → kind_of s (admission s limit h) h ≡ kind
       → nat_lt (done_at s limit (admission s limit h) h) limit ≡ true
       → first_pc rest pc ≡ (continued s limit (admission s limit h) h).state.pc → Rest (admission s limit h) rest pc

@@ -26,6 +26,7 @@ pub issue_is : (s : Settings) (x : Stream) (j : ℕ) → issue s x j ≡ max (pa
 unfolding issue
 issue_is s x j = refl
 
+-- a word more leaves what its request leaves, made in its issue cycle after the words before it
 pub past_suc : (s : Settings) (x : Stream) (j : ℕ)
     → past s x (suc j) ≡ after_request s x.switches x.fences (past s x j) (issue s x j) (word_addr x j)
 unfolding past issue
@@ -44,9 +45,11 @@ after_issue s x j =
           (victim x.fences (past s x j).fills (line_of (word_addr x j)) (issue s x j)),
     )
 
+-- no word is requested before the one in front of it has answered
 pub next_issue : (s : Settings) (x : Stream) (j : ℕ) → answer s x j ≤ issue s x (suc j)
 next_issue s x j = omega (arith, issue_is s x (suc j))
 
+-- words answer in the order of the stream
 pub answer_mono : (s : Settings) (x : Stream) (i j : ℕ) → i ≤ j → answer s x i ≤ answer s x j
 answer_mono s x i zero h = le_of_eq (ap (answer s x) (omega arith))
 answer_mono s x i (suc j) h =
@@ -55,6 +58,7 @@ answer_mono s x i (suc j) h =
       | inr ne ↦ omega (arith, answer_mono s x i j (omega arith), after_issue s x (suc j), next_issue s x j)
     ]
 
+-- words are requested in the order of the stream
 pub issue_mono : (s : Settings) (x : Stream) (i j : ℕ) → i ≤ j → issue s x i ≤ issue s x j
 issue_mono s x i zero h = le_of_eq (ap (issue s x) (omega arith))
 issue_mono s x i (suc j) h =
@@ -77,6 +81,7 @@ gate_more x e (suc zero) h = refl
 gate_more x e (suc (suc zero)) h = refl
 gate_more x e (suc (suc (suc i))) h = get_or-append x.enters (e ∷ []) 0 i (omega arith)
 
+-- the new enter holds back the word three behind the one whose last half it takes
 gate_end : (x : Stream) (e j : ℕ) → j ≡ length x.enters + 3 → gate (with_enter x e) j ≡ e
 unfolding gate
 gate_end x e zero h = absurd (omega arith)
@@ -95,6 +100,7 @@ past_more s x e (suc j) h =
     ap₂ (λ y g. after_request s x.switches x.fences y (max y.answer g) (word_addr x j))
     (past_more s x e j (omega arith)) (gate_more x e j h)
 
+-- words before that one are requested in the same cycles
 pub issue_more : (s : Settings) (x : Stream) (e j : ℕ) → j < length x.enters + 3
     → issue s (with_enter x e) j ≡ issue s x j
 unfolding issue
@@ -135,10 +141,11 @@ requested_is s x t q r = words_at s x t q r (length x.enters + 3) r.within (omeg
 abbrev pub IsPast : Stream → ℕ → Type 0
 IsPast x c = (q : ℕ) → q < length x.enters + 3 → gate x q ≤ c
 
--- an enter more, and each is past at its cycle
+-- one enter more is one more in the list
 pub more_length : (x : Stream) (e : ℕ) → length (with_enter x e).enters ≡ length x.enters + 1
 more_length x e = length-append x.enters (e ∷ [])
 
+-- an enter in cycle c leaves no word held back beyond c
 pub gates_more : (x : Stream) (c : ℕ) → IsPast x c → IsPast (with_enter x c) c
 gates_more x c old q h =
     elim (cases_lt q (length x.enters + 3)) [
@@ -179,6 +186,7 @@ sound_later (k ∷ fills) v w h z = (omega (arith, z.0), (omega (arith, z.1.0), 
 pub half_before : (a g0 g1 v : ℕ) → g0 < v → g1 < v → half_grant a g0 g1 < v
 half_before a g0 g1 v h0 h1 = elim (is_upper a) as (λ b. (if b then g1 else g0) < v) [ true ↦ h1 | false ↦ h0 ]
 
+-- where all fills were granted before a cycle, so was the word that is found at a place
 hit_before : (fills : List Fill) (set a v : ℕ) → 0 < v → Sound fills v → fill_grant (last_fill fills set) a < v
 unfolding last_fill fill_grant
 hit_before [] set a v h z = h
@@ -225,6 +233,7 @@ sound_by s x j z =
     (found_slot x.fences y.fills (line_of (word_addr x j)) t) (victim x.fences y.fills (line_of (word_addr x j)) t)
     (omega (arith, issue_is s x j)) z)
 
+-- along a stream all fills were granted before the last answer
 pub past_sound : (s : Settings) (x : Stream) (j : ℕ) → IsSound x.before → IsSound (past s x j)
 unfolding past
 past_sound s x zero z = z

@@ -40,6 +40,7 @@ told_after s limit (suc n) m =
     after_by s limit n m (nat_lt (done_at s limit (admission s limit h) h) limit) refl
     (subst (λ x. IsAfter s limit (told s limit n x).story) (after_suc s limit m) (told_after s limit n (suc m)))
 
+-- a history leaves the story after some number of items
 pub below_after : (s : Setup) (limit : ℕ) → IsAfter s limit (told_below s limit).story
 below_after s limit =
     subst (λ x. IsAfter s limit (told s limit limit x).story) (after_zero s limit) (told_after s limit limit zero)
@@ -64,6 +65,7 @@ story_holds s limit n ok = record {
   memory = λ c late. story_memory s limit n c ok late;
 }
 
+-- all of this holds of the story that a history leaves
 pub history_holds : (s : Setup) (n : ℕ) → IsSane s → IsStory s (told_below s n).story
 history_holds s n ok =
     let p = below_after s n in

@@ -51,15 +51,19 @@ pub record IsValues (v : CsrValues) : Type 0 where
 masked : (a m : ℕ) → m < 2 ^ 32 → bit_and a m < 2 ^ 32
 masked a m h = omega (arith, h, and_le_r a m)
 
+-- what mepc keeps of a value is a word
 mepc_low : (a : ℕ) → kept_mepc a < 2 ^ 32
 mepc_low a = legal-low Mepc a
 
+-- what mepc keeps of a value is even
 mepc_even : (a : ℕ) → kept_mepc a % 2 ≡ 0
 mepc_even a = kept_mepc-even a
 
+-- what mtvec keeps of a value is a word
 pub mtvec_low : (a : ℕ) → kept_mtvec a < 2 ^ 32
 mtvec_low a = legal-low Mtvec a
 
+-- what a write stores in mstatus is a word
 status_low : (w : ℕ) → stored_mstatus w < 2 ^ 32
 status_low w = stored-low w
 
@@ -71,6 +75,7 @@ legal_low b = low_by (bit_and b 3 == 2)
     low_by true = omega (arith, and_le_r b 0x9d)
     low_by false = omega (arith, and_le_r b 0x9f)
 
+-- a byte of configuration stays a byte, locked or written
 byte_low : (old new : ℕ) → old < 256 → kept_byte old new < 256
 byte_low old new h = low_by (bit_and old 0x80 == 0)
   where
@@ -78,12 +83,15 @@ byte_low old new h = low_by (bit_and old 0x80 == 0)
     low_by true = legal_low new
     low_by false = h
 
+-- four bytes make a word
 four_low : (a b c d : ℕ) → a < 256 → b < 256 → c < 256 → d < 256 → from_le_bytes w32 (a ∷ b ∷ c ∷ d ∷ []) < 2 ^ 32
 four_low a b c d ha hb hc hd = omega arith
 
+-- a byte of a number is below 256, whatever the number
 of_word : (old k : ℕ) → word_byte old k < 256
 of_word old k = mod_below (old / 256 ^ k) 256 (omega arith)
 
+-- so what a write stores of four bytes of configuration is a word
 cfg_low : (old v : ℕ) → stored_cfg old v < 2 ^ 32
 cfg_low old v =
     four_low (kept_byte (word_byte old 0) (word_byte v 0)) (kept_byte (word_byte old 1) (word_byte v 1))
@@ -128,15 +136,18 @@ value_low v Minstret lines z h = mod_below v.minstret (2 ^ 32) (omega arith)
 value_low v Minstreth lines z h = omega (arith, z.minstret)
 value_low v _ lines z h = omega arith
 
+-- what is read of a register, if there is one, is a word
 at_low : (v : CsrValues) (lines : ℕ) (o : Option Csr) → IsValues v → lines < 2 ^ 32
     → IfSome (value_at v lines o) IsWord
 at_low v lines None z h = tt
 at_low v lines (Some c) z h = value_low v c lines z h
 
+-- a read at an address gives a word, if it gives anything
 pub read_low : (v : CsrValues) (a lines : ℕ) → IsValues v → lines < 2 ^ 32 → IfSome (csr_read v a lines) IsWord
 unfolding csr_read
 read_low v a lines z h = at_low v lines (readable v.machine a) z h
 
+-- what a CSR instruction writes, sets or clears is a word
 pub written_low : (op : CsrOp) (old source : ℕ) → old < 2 ^ 32 → source < 2 ^ 32 → written op old source < 2 ^ 32
 written_low Write old source ho hs = hs
 written_low Set old source ho hs = or_of_32 old source ho hs
@@ -165,6 +176,7 @@ addr_stays v k w false h z = record {
   minstret = z.minstret;
 }
 
+-- a write of a word to any register keeps all widths, and mepc even
 put_keeps : (v : CsrValues) (c : Csr) (w : ℕ) → w < 2 ^ 32 → IsValues v → IsValues (put_value v c w)
 unfolding put_value
 put_keeps v Mstatus w h z = record {
@@ -396,10 +408,12 @@ put_keeps v Minstreth w h z = record {
 }
 put_keeps v _ w h z = z
 
+-- so does a write that may find no register
 found_keeps : (v : CsrValues) (o : Option Csr) (w : ℕ) → w < 2 ^ 32 → IsValues v → IsValues (put_at v w o)
 found_keeps v None w h z = z
 found_keeps v (Some c) w h z = put_keeps v c w h z
 
+-- a write at an address keeps the widths, in either mode
 pub write_keeps : (v : CsrValues) (a w : ℕ) → w < 2 ^ 32 → IsValues v → IsValues (csr_write v a w)
 unfolding csr_write
 write_keeps v a w h z = found_keeps v (writable v.machine a) w h z
@@ -409,6 +423,7 @@ counted_low : (count : ℕ) (b : Bool) → count < 2 ^ 64 → counted count b < 
 counted_low count true h = h
 counted_low count false h = mod_below (count + 1) (2 ^ 64) (omega arith)
 
+-- both counters keep their 64 bits, whether they count or stand
 tick_by : (v : CsrValues) (a b : Bool) → IsValues v
     → IsValues (record v { mcycle = counted v.mcycle a; minstret = counted v.minstret b })
 tick_by v a b z = record {
@@ -428,10 +443,12 @@ tick_by v a b z = record {
   minstret = counted_low v.minstret b z.minstret;
 }
 
+-- a cycle keeps the widths, whether an instruction retires or not
 pub tick_keeps : (v : CsrValues) (retired : Bool) (wrote : Option ℕ) → IsValues v → IsValues (csr_tick v retired wrote)
 unfolding csr_tick
 tick_keeps v retired wrote z = tick_by v _ _ z
 
+-- mcycle that moves by many cycles keeps its 64 bits, and so it does where it stands
 moved_by : (v : CsrValues) (n : ℕ) (b : Bool) → IsValues v
     → IsValues (record v { mcycle = if b then (v.mcycle + n) % 2 ^ 64 else v.mcycle })
 moved_by v n true z = record {
@@ -467,6 +484,7 @@ moved_by v n false z = record {
   minstret = z.minstret;
 }
 
+-- so any number of cycles keeps the widths
 pub counters_keep : (v : CsrValues) (n : ℕ) → IsValues v → IsValues (counters_after v n)
 unfolding counters_after
 counters_keep v n z = moved_by v n (bit_and v.mcountinhibit 1 == 0) z
@@ -497,6 +515,7 @@ pub enter_keeps : (v w : CsrValues) (pc cause tval : ℕ) (irq : Bool) → tval 
 unfolding enter_of
 enter_keeps v w pc cause tval irq h z = regs_keep v (enter_of (trap_regs w) pc cause irq tval) h z
 
+-- MRET keeps the widths, as it leaves mtval as it was
 pub leave_keeps : (v w : CsrValues) → w.mtval < 2 ^ 32 → IsValues v
     → IsValues (with_trap_regs v (leave_of (trap_regs w)))
 unfolding leave_of

@@ -56,6 +56,7 @@ portions_written waits n e true OneBad a ws m = refl
 portions_written waits n e true Two a ws m = refl
 portions_written waits n e true TwoBad a ws m = refl
 
+-- so do those of an item that may have no access
 pub writes_leave : (waits : List Wait) (n e : ℕ) (portions : Portions) (o : Option Access) (ws : List Write)
     (m : Memory) → all_written m (writes_with waits n e portions o ws) ≡ leaves_for portions o (all_written m ws)
 writes_leave waits n e portions None ws m = refl
@@ -126,6 +127,7 @@ store_inner s size addr value =
     (is_refused s.csrs addr size Writes false) (is_refused s.csrs addr size Writes true) (has_second addr size)
     (is_mapped s.memory.ram (portion_addr addr false)) (is_mapped s.memory.ram (portion_addr addr true))
 
+-- a store of the architecture leaves what its portions by the settings leave
 pub store_leaves : (k : Settings) (s : State) (size addr value next : ℕ) → s.memory.ram ≡ k.ram
     → (store s size addr value next).memory
     ≡ leaves true (portions_at k (ctl_of s.csrs) addr size Writes) (cut_access addr size value) s.memory

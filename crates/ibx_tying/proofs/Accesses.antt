@@ -63,19 +63,23 @@ named_rows w =
     (λ _. (tt, z, z)) ▸
     (λ _. (tt, z, z)) ▸ (λ _. (tt, z, z)) ▸ (λ _. (tt, z, z)) ▸ (λ _. (tt, z, z)) ▸ tt
 
+-- a word that is decoded reads registers below 32, and a store has an access size
 named_decoded : (w : ℕ) → IfSome (decode_of w) IsNamed
 unfolding decode_of
 named_decoded w = given w IsNamed rows (named_rows w)
 
+-- the same of a halfword, by the word that it expands to, if there is one
 named_expanded : (o : Option ℕ) → IfSome (option_and_then decode_of o) IsNamed
 named_expanded None = tt
 named_expanded (Some w) = named_decoded w
 
+-- the same of a fetched word, decoded as it is or expanded first
 named_by : (long : Bool) (word : ℕ)
     → IfSome (if long then decode_of word else option_and_then decode_of (expand_of word)) IsNamed
 named_by true word = named_decoded word
 named_by false word = named_expanded (expand_of word)
 
+-- so every instruction reads registers below 32 only, and stores 1, 2 or 4 bytes
 pub named : (word : ℕ) → IfSome (instruction_of word) IsNamed
 unfolding instruction_of
 named word = named_by (is_long word) word
@@ -94,10 +98,12 @@ load_size Lw = (omega arith, omega arith)
 load_size Lbu = (omega arith, omega arith)
 load_size Lhu = (omega arith, omega arith)
 
+-- a load's access has an address in 32 bits and 1 to 4 bytes, and no value to write
 loads_are : (op : LoadOp) (a : ℕ) → IsAccess
     (record { addr = a % 2 ^ 32; size = size_of op; store = false; value = 0 })
 loads_are op a = record { addr = omega arith; some = (load_size op).0; most = (load_size op).1; value = omega arith }
 
+-- a store's access has them too, and its value is cut to its bytes
 stores_are : (size a v : ℕ) → IsAccessSize size
     → IsAccess (record { addr = a % 2 ^ 32; size = size; store = true; value = v % 256 ^ size })
 stores_are size a v (inl e) = subst
@@ -142,10 +148,12 @@ access_row s Ebreak n w e = no_access w e
 access_row s Mret n w e = no_access w e
 access_row s Wfi n w e = no_access w e
 
+-- so is the access of a word, if it is an instruction at all
 access_some : (s : State) (o : Option Insn) → IfSome o IsNamed → (w : Access) → access_of s o ≡ Some w → IsAccess w
 access_some s None n w e = no_access w e
 access_some s (Some insn) n w e = access_row s insn n w e
 
+-- so is the access of an item, by the word in its view; a dummy has none
 access_chosen : (s : Setup) (h : Story) (o : Option Choice) (w : Access) → access_by s h o ≡ Some w → IsAccess w
 access_chosen s h None w e = no_access w e
 access_chosen s h (Some choice) w e =

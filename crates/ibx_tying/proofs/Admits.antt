@@ -52,6 +52,7 @@ unfolding first_from
 first_now zero test c h e = absurd (omega arith)
 first_now (suc n) test c h e = rw e refl
 
+-- where the test fails, the search goes on in the next cycle with one try less
 first_later : (n : ℕ) (test : ℕ → Bool) (c : ℕ) → 0 < n → test c ≡ false
     → first_from n test c ≡ first_from (n - 1) test (c + 1)
 unfolding first_from
@@ -82,6 +83,7 @@ dummies_are : (s : Setup) (c : ℕ) (h : Story)
 unfolding taken admitted
 dummies_are s c h = refl
 
+-- in its first cycle in the stage an item has counted no cycle yet
 count_is : (c : ℕ) → min 63 (c + 1 - (c + 1)) ≡ 0
 count_is c = ap (λ n. min 63 n) (let e : c + 1 - (c + 1) ≡ 0 = omega arith in e)
 
@@ -121,15 +123,17 @@ stays_empty s limit h c id ls p less u i e = record {
 
 -- ---- an interrupt, and a dummy
 
--- neither takes parcels
+-- where a test holds, the first of two items is taken, and no parcel if that has none
 no_parcels_by : (b : Bool) (x y : Item) → b ≡ true → x.parcels ≡ 0 → (if b then x else y).parcels ≡ 0
 no_parcels_by true x y e k = k
 no_parcels_by false x y e k = let no_ : false ≡ true = e in cc
 
+-- an interrupt takes no parcel from the head
 interrupt_parcels : (k : Settings) (c : Ctl) (v : View) → (v.kind == 2) ≡ true → (item_of k c v).parcels ≡ 0
 unfolding item_of
 interrupt_parcels k c v e = no_parcels_by (v.kind == 2) _ _ e refl
 
+-- a dummy takes no parcel either, since its word comes from the LFSR
 dummy_parcels : (k : Settings) (d : Dummy) → (dummy_item k d).parcels ≡ 0
 unfolding dummy_item
 dummy_parcels k d = refl
@@ -170,6 +174,7 @@ special_fits s c h kind e k apart ready none t i d =
 interrupt_apart : (number : ℕ) → AnInterrupt number ≡ AnInstruction → ⊥
 interrupt_apart number e = cc
 
+-- a dummy isn't an instruction either
 dummy_apart : ADummy ≡ AnInstruction → ⊥
 dummy_apart e = cc
 
@@ -183,6 +188,7 @@ interrupt_fits s c h number k =
     (interrupt_parcels (settings_of s) h.times.ctl (view_with s h (Interrupt number)) (view_interrupt s h number)) refl
     refl refl
 
+-- a dummy that is due fits an entry with the word that the LFSR chooses, and is inserted
 dummy_fits : (s : Setup) (c : ℕ) (h : Story) → kind_of s c h ≡ ADummy
     → Fits s h c (record {
       id = enters 1 h.state.pc (dummy_word h.times.dummies.lfsr) 0;
@@ -229,6 +235,7 @@ pub brought_is : (s : Setup) (h : Story) → brought_parcels s h ≡ Parcels (fi
 unfolding brought_parcels
 brought_is s h = refl
 
+-- what is fetched next is what the state makes of this pair
 pub fetched_is : (s : Setup) (h : Story) → fetched s h ≡ fetch h.state (first_of_pair s h) (second_of_pair s h)
 unfolding fetched
 fetched_is s h = refl
@@ -261,12 +268,13 @@ words_are s h c low p =
     (item_of (settings_of s) h.times.ctl (view_with s h (brought_parcels s h))).parcels c (sound1 h) (is_pair s h)
     (sound2 h) low p.parcels
 
--- it takes one or two
+-- it takes two parcels at most
 parcels_low : (a long b : Bool) → parcels_by a long b ≤ 2
 parcels_low false long b = omega arith
 parcels_low true false b = omega arith
 parcels_low true true b = omega arith
 
+-- and one at least, even if its first parcel is unsound
 parcels_some : (a long b : Bool) → 0 < parcels_by a long b
 parcels_some false long b = omega arith
 parcels_some true false b = omega arith
@@ -307,6 +315,7 @@ instruction_fits s c h counted e k low p same there i t d =
       dummies = d ∙ same ∙ sym (ap (λ x. dummies_with x h.times.ctl h.times.dummies) k);
     }
 
+-- by what comes of its parcels, the instruction is admitted or the stage stays empty
 instruction_enters : (s : Setup) (limit : ℕ) (h : Story) (c : ℕ) (counted : Dummy) (e : Entry) (ls : Lsu)
     (p : PortState) → c < limit → EmptyEnd s limit h c ls p
     → kind_of s c h ≡ AnInstruction → h.times.half < 2 → Pair s h → counted ≡ counted_in h.times.ctl h.times.dummies
@@ -319,7 +328,7 @@ instruction_enters s limit h c counted e ls p less u k low pair same (comes ther
 
 -- ---- the parcels at the head
 
--- conditions of tests
+-- a test that is negated twice is the test
 double_not : (a : Bool) → not (not a) ≡ a
 double_not true = refl
 double_not false = refl
@@ -341,10 +350,12 @@ allows_fields csrs addr e = ap (allows (values csrs)) (halved addr e)
     halved : (n : ℕ) → n % 2 ≡ 0 → n / 2 * 2 ≡ n
     halved n e = omega (arith, e)
 
+-- cycles that are counted change no permission
 allows_later : (v : CsrValues) (n addr : ℕ) → allows (counters_after v n) addr ≡ allows v addr
 unfolding counters_after
 allows_later v n addr = refl
 
+-- the core's fields let an even address be executed just where the state does
 may_is : (s : Setup) (h : Story) (c next_pc : ℕ) (csrs : Csrs) (regs : List ℕ) (addr : ℕ)
     → Tied s h c next_pc csrs regs → addr % 2 ≡ 0 → may_execute csrs addr ≡ allows h.state.csrs addr
 may_is s h c next_pc csrs regs addr t even =
@@ -397,6 +408,7 @@ pending_is : (csrs : Csrs) (lines : ℕ)
 unfolding values
 pending_is csrs lines = refl
 
+-- what is admitted, by a pending interrupt and whether a dummy is due
 kind_is : (s : Setup) (c : ℕ) (h : Story) (o : Option ℕ) (due : Bool)
     → pending_in (values_of h.times.ctl) (lines_in (settings_of s) c) ≡ o → is_due_in h.times.ctl h.times.dummies ≡ due
     → kind_of s c h ≡ kind_by o due

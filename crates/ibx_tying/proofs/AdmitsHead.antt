@@ -34,6 +34,7 @@ pub data Comes (there a long b : Bool) (pc p1 p2 : ℕ) (d counted : Dummy) (e :
 first_fault : (pc : ℕ) → fault_of pc (Unsound pc) ≡ 1
 first_fault pc = ap (λ x. if x then 1 else 2) (eq-eqb pc pc refl)
 
+-- a second parcel that is unsound is fault 2, since its address isn't the program counter
 second_fault : (pc : ℕ) → pc < 2 ^ 32 → fault_of pc (Unsound ((pc + 2) % 2 ^ 32)) ≡ 2
 second_fault pc low = ap (λ x. if x then 1 else 2) (next_apart pc low)
 
@@ -93,6 +94,7 @@ answered_same true false long b = refl
 answered_same true true false b = refl
 answered_same true true true b = refl
 
+-- with a word for each parcel, the second word is waited for only where both parcels are taken
 answered_next : (r1 r2 a long b : Bool) → (r1 && (not (parcels_by a long b == 2) || r2)) ≡ comes_by r1 r2 a long
 answered_next false r2 a long b = refl
 answered_next true r2 false long b = refl
@@ -108,6 +110,7 @@ answered_half test n zero a long b low =
 answered_half test n (suc zero) a long b low = answered_next (test n) (test (n + 1)) a long b
 answered_half test n (suc (suc half)) a long b low = absurd (omega arith)
 
+-- so an instruction's words have answered just where the answers for its two parcels let it come
 pub answered_is : (k : Settings) (x : Times) (parcels c : ℕ) (a long b : Bool) → x.half < 2
     → parcels ≡ parcels_by a long b → has_answered k x parcels c
     ≡ comes_by (nat_le (answer k x.stream (length x.stream.enters)) c)

@@ -88,12 +88,14 @@ retired_access k c v s (Some Ebreak) i e = none e
 retired_access k c v s (Some Mret) i e = none e
 retired_access k c v s (Some Wfi) i e = none e
 
+-- by kind of item: an interrupt has no portion, and a trap or retirement those of its access
 item_access_by : (o : Option Access) (a b : Bool) (x y z : Item) → x.portions ≡ NoPortion → HasAccess y.portions o
     → HasAccess z.portions o → HasAccess (if a then x else if b then y else z).portions o
 item_access_by o true b x y z e g k = none e
 item_access_by o false true x y z e g k = g
 item_access_by o false false x y z e g k = k
 
+-- the item of a view has portions only if its instruction has an access
 item_access : (k : Settings) (c : Ctl) (v : View) (s : State)
     → HasAccess (item_of k c v).portions (access_of s (instruction_of v.word))
 unfolding item_of
@@ -109,11 +111,13 @@ item_access k c v s =
     refl (row_access k c s (instruction_of v.word) v.addr)
     (retired_access k c v s (instruction_of v.word) (plain (parcels_of v.word)) refl)
 
+-- the same of an item by its choice; a dummy, which has no choice, has no portion
 chosen_access : (s : Setup) (h : Story) (o : Option Choice) → HasAccess (item_by s h o).portions (access_by s h o)
 unfolding dummy_item
 chosen_access s h None = none refl
 chosen_access s h (Some choice) = item_access (settings_of s) h.times.ctl (view_with s h choice) h.state
 
+-- so whatever is admitted at t, its portions are those of an access
 pub has_access : (s : Setup) (t : ℕ) (h : Story) → HasAccess (item_at s t h).portions (access_at s t h)
 unfolding item_at access_at
 has_access s t h = chosen_access s h (choice_at s t h)
@@ -137,6 +141,7 @@ portion_by s t h ls p a (inl e) l i = quiet e l i
 portion_by s t h ls p (none e) (inr r) l i = quiet e l i
 portion_by s t h ls p (some w e) (inr r) l i = new w false (record { access = e; reached = r }) l refl i
 
+-- with an idle unit and port, an item enters with its first portion due, or with none
 pub starts_portion : (s : Setup) (t : ℕ) (h : Story) (ls : Lsu) (p : PortState) → ls ≡ ls_idle
     → Idle s.plan.dwaits h.times.made p → LsAt s t h (t + 1) ls p
 starts_portion s t h ls p l i = portion_by s t h ls p (has_access s t h) (first_portion (item_at s t h).portions) l i
@@ -149,10 +154,12 @@ unfolding answer_time grant_time
 late_issue ws n e false = omega arith
 late_issue ws n e true = omega arith
 
+-- the grant of a portion isn't before the item enters
 late_grant : (ws : List Wait) (n e : ℕ) (second : Bool) → e ≤ portion_grant ws n e second
 unfolding grant_time
 late_grant ws n e second = omega (arith, late_issue ws n e second)
 
+-- so neither portion of a store is written before its item enters
 late_write : (ws : List Wait) (n e : ℕ) (a : Access) (second : Bool) → e ≤ (write_of ws n e a second).time
 late_write ws n e a false = late_grant ws n e false
 late_write ws n e a true = late_grant ws n e true
@@ -172,6 +179,7 @@ grows_by OneBad true first second ws e a b = record { front = first ∷ []; join
 grows_by Two true first second ws e a b = record { front = second ∷ first ∷ []; joined = refl; late = (b, (a, tt)) }
 grows_by TwoBad true first second ws e a b = record { front = second ∷ first ∷ []; joined = refl; late = (b, (a, tt)) }
 
+-- an item only adds to the log, and nothing before it enters; without an access it adds nothing
 grows_with : (waits : List Wait) (n e : ℕ) (portions : Portions) (o : Option Access) (ws : List Write)
     → Grows ws (writes_with waits n e portions o ws) e
 grows_with waits n e portions None ws = record { front = []; joined = refl; late = tt }
@@ -179,6 +187,7 @@ grows_with waits n e portions (Some a) ws =
     grows_by portions a.store (write_of waits n e a false) (write_of waits n e a true) ws e
     (late_write waits n e a false) (late_write waits n e a true)
 
+-- so the log of a story grows by writes of the next cycle or later
 pub grows : (s : Setup) (t : ℕ) (h : Story) → Grows h.writes (taken s t h).writes (t + 1)
 unfolding taken
 grows s t h = grows_with s.plan.dwaits h.times.made (t + 1) (item_at s t h).portions (access_at s t h) h.writes
@@ -190,11 +199,12 @@ unseen : (x : Transaction) (sent : List Transaction) (c : ℕ) → c < x.issue �
 unfolding wires_at
 unseen x sent c l = rw (lt-leb x.issue c l) refl
 
--- so the wires of the cycle of admission are those without the item
+-- a portion's transaction isn't issued before the item enters
 late_sent : (ws : List Wait) (n e : ℕ) (a : Access) (second : Bool) → e ≤ (portion_sent ws n e a second).issue
 late_sent ws n e a false = late_issue ws n e false
 late_sent ws n e a true = late_issue ws n e true
 
+-- whatever its portions, an item shows nothing on the wires before they are issued
 wires_by : (portions : Portions) (first second : Transaction) (sent : List Transaction) (c : ℕ) → c < first.issue
     → c < second.issue → wires_at (sent_by portions first second sent) c ≡ wires_at sent c
 unfolding sent_by
@@ -204,6 +214,7 @@ wires_by OneBad first second sent c a b = unseen first sent c a
 wires_by Two first second sent c a b = unseen second (first ∷ sent) c b ∙ unseen first sent c a
 wires_by TwoBad first second sent c a b = unseen second (first ∷ sent) c b ∙ unseen first sent c a
 
+-- an item that enters in the next cycle shows nothing on the wires of this one
 wires_with : (waits : List Wait) (n c : ℕ) (portions : Portions) (o : Option Access) (sent : List Transaction)
     → wires_at (sent_with waits n (c + 1) portions o sent) c ≡ wires_at sent c
 wires_with waits n c portions None sent = refl
@@ -211,6 +222,7 @@ wires_with waits n c portions (Some a) sent =
     wires_by portions (portion_sent waits n (c + 1) a false) (portion_sent waits n (c + 1) a true) sent c
     (omega (arith, late_sent waits n (c + 1) a false)) (omega (arith, late_sent waits n (c + 1) a true))
 
+-- so the wires of the cycle of admission are those without the item
 pub same_wires : (s : Setup) (t : ℕ) (h : Story) → wires_at (taken s t h).sent t ≡ wires_at h.sent t
 unfolding taken
 same_wires s t h = wires_with s.plan.dwaits h.times.made t (item_at s t h).portions (access_at s t h) h.sent

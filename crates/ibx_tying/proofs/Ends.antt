@@ -99,12 +99,14 @@ view_is s h c =
     ∙ view_same (settings_of s) h.state h.state.stands c (first_of_pair s h) (second_of_pair s h)
     ∙ ap (λ p. view_of p.event) (step_after (settings_of s) h.state c (first_of_pair s h) (second_of_pair s h))
 
+-- so an instruction's item is told by its view in any cycle, its last one too
 item_by_view : (s : Setup) (t : ℕ) (h : Story) (c : ℕ) → kind_of s t h ≡ AnInstruction
     → item_at s t h ≡ item_of (settings_of s) h.times.ctl (view_of (step_now s h c).event)
 unfolding item_at
 item_by_view s t h c k =
     ap (λ x. item_by s h (choice_by s h x)) k ∙ ap (item_of (settings_of s) h.times.ctl) (view_is s h c)
 
+-- and so is the phase in which it traps
 pub phase_by_view : (s : Setup) (t : ℕ) (h : Story) (c : ℕ) → kind_of s t h ≡ AnInstruction
     → trap_phase s t h ≡ view_phase (Some (view_of (step_now s h c).event))
 unfolding trap_phase
@@ -122,6 +124,7 @@ portion_small tval (Some addr) true e = either_small (tval == addr)
     either_small true = omega arith
     either_small false = omega arith
 
+-- a view with another phase than 4 has one below it
 phase_small : (v : View) → (view_phase (Some v) == 4) ≡ false → view_phase (Some v) < 4
 phase_small v e = portion_small v.tval v.addr (v.kind == 1) e
 
@@ -140,6 +143,7 @@ pair_low s h ok = (
       (λ a. log_low s h.writes _ a ok),
 )
 
+-- what is fetched is well formed: its length fits its word, or its fault tells its address
 pub fetch_is_good : (s : Setup) (h : Story) → IsPlaced s → h.state.pc < 2 ^ 32 → IsFetch h.state.pc (what s h)
 fetch_is_good s h ok l =
     subst (IsFetch h.state.pc) (sym (fetch_is h.state (first_of_pair s h) (second_of_pair s h)))
@@ -211,6 +215,7 @@ instruction_ended s limit t h st units ok ti i d a ph k n =
     })
     (units limit t h st ok ti i a ph k n)
 
+-- an instruction whose effect is its step's leaves the story of the history
 instruction_left : (s : Setup) (limit t : ℕ) (h : Story) (st : System) → IsPlaced s
     → Tied s h st.cycle st.main.next_pc st.main.csrs st.regs → IsState s st.cycle h → kind_of s t h ≡ AnInstruction
     → Ends s limit t h st.cycle st.main.id st.main.md st.main.ls st.dport

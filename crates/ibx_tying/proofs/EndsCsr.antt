@@ -47,6 +47,7 @@ steady_by Minstret e = absurd cc
 steady_by Minstreth e = absurd cc
 steady_by _ e = refl
 
+-- time depends on no register but those that control the core
 idle_by : (c : Csr) → is_control c ≡ false → is_timing c ≡ false
 idle_by Mstatus e = absurd cc
 idle_by Mie e = absurd cc
@@ -63,6 +64,7 @@ named_by a (Some c) e = record {
   idle = λ k. idle_by c (sym (ap is_control_in e) ∙ k);
 }
 
+-- the register at any address is steady if it controls the core, and none of timing's if it doesn't
 named_so : (a : ℕ) → IfSome (csr_of a) (IsNamedSo a)
 named_so a = named_by a (csr_of a) refl
 
@@ -71,6 +73,7 @@ if_readable : (machine : Bool) (a : ℕ) → IfSome (readable machine a) (IsName
 if_readable true a = named_so a
 if_readable false a = tt
 
+-- what a mode may read at an address is such a register; U mode reads none
 pub readable_so : (machine : Bool) (a : ℕ) → IfSome (readable machine a) (IsNamedSo a)
 readable_so machine a = if_readable machine a
 
@@ -80,6 +83,7 @@ if_writable : (b : Bool) (o : Option Csr) (a : ℕ) → IfSome o (IsNamedSo a)
 if_writable true o a k = tt
 if_writable false o a k = k
 
+-- what a mode may write is one too, since it may be read
 pub writable_so : (machine : Bool) (a : ℕ) → IfSome (writable machine a) (IsNamedSo a)
 writable_so machine a = if_writable (is_read_only a) (readable machine a) a (readable_so machine a)
 
@@ -106,6 +110,7 @@ put_idle v (Pmpaddr k) w e = absurd cc
 put_idle v Cpuctrl w e = absurd cc
 put_idle v _ w e = refl
 
+-- a write at an address that doesn't control the core leaves timing's, with a register there or not
 put_at_idle : (v : CsrValues) (a w : ℕ) (o : Option Csr) → IfSome o (IsNamedSo a) → is_control_at a ≡ false
     → ctl_of (put_at v w o) ≡ ctl_of v
 put_at_idle v a w None k e = refl

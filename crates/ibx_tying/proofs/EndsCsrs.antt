@@ -109,6 +109,7 @@ left_is m k =
     ∙ ap (λ w. with_trap_regs w (leave_of (trap_regs (values m.core.csrs)))) (tick_of_core m k)
     ∙ ap (λ w. with_trap_regs (csr_tick (now m).csrs true None) (leave_of (trap_regs w))) k.csrs
 
+-- MRET leaves each register within its width
 left_low : (m : Case) → Known m → IsValues (left_values m)
 unfolding leave_of
 left_low m k = trap_values (csr_tick (now m).csrs true None) _ (values_now m None k)
@@ -139,6 +140,7 @@ back_cause m k e = ap (λ (w : CsrValues). cause_by w.machine) k.csrs ∙ ap cau
     cause_by : Bool → Option ℕ
     cause_by b = if b then None else Some 2
 
+-- MRET ends as its step, by its mode: a trap in U mode, else a return to mepc
 back_by : (m : Case) (word len : ℕ) (b : Bool) → (now m).csrs.machine ≡ b → Known m → Meets m (back_step m word b)
     → Holds m word len Mret (view_of (back_step m word b).event) → Ended m (effect_now m) (back_step m word b)
 unfolding finished retired_by retired_item
@@ -181,6 +183,7 @@ lacks_by : (v : CsrValues) (la lb : ℕ) (o : Option Name)
 lacks_by v la lb None = refl
 lacks_by v la lb (Some c) = refl
 
+-- so whether there is a register to read doesn't depend on the interrupt lines
 lacks_same : (v : CsrValues) (addr la lb : ℕ) → lacks_value (csr_read v addr la) ≡ lacks_value (csr_read v addr lb)
 unfolding csr_read
 lacks_same v addr la lb = lacks_by v la lb (readable v.machine addr)
@@ -192,6 +195,7 @@ old_by v lines old None i l e = absurd cc
 old_by v lines old (Some c) i l e =
     subst (λ x. x < 2 ^ 32) (let q : value_of v c lines ≡ old = cc in q) (value_low v c lines i l)
 
+-- so what a CSR instruction reads at an address is a word
 old_low : (v : CsrValues) (addr lines old : ℕ) → IsValues v → lines < 2 ^ 32 → csr_read v addr lines ≡ Some old
     → old < 2 ^ 32
 unfolding csr_read
@@ -208,6 +212,7 @@ seed_is d op rd src value addr imm false e = no_seed (addr == 0x7c1) refl
     no_seed false q = refl
     no_seed true q = apart (sym (ap is_control_at (eqb-true addr 0x7c1 q) ∙ seed_controls) ∙ e)
 
+-- times and registers agree after a CSR instruction on all that time depends on
 control_is : (v : CsrValues) (c : Ctl) (op : CsrOp) (rd src value addr : ℕ) (imm control : Bool)
     → is_control_at addr ≡ control → c ≡ ctl_of v
     → ctl_retired c (Some (Csr op rd src imm addr)) (if control then Some value else None)
@@ -376,6 +381,7 @@ csr_some m word len op rd src addr source old imm true true ew ec eo ls es k t h
     low
     (next_even m.h.state.pc len word hd.len_is k.good.pc_even) (mod_below (m.h.state.pc + len) (2 ^ 32) (omega arith))
 
+-- a CSR instruction ends as its step, by what is read: without a register it is illegal
 csr_by : (m : Case) (word len : ℕ) (op : CsrOp) (rd src addr source : ℕ) (imm : Bool) (o : Option ℕ)
     → csr_read (now m).csrs addr (lines_in (settings_of m.s) m.c) ≡ o → source < 2 ^ 32
     → (m.g.a ≡ reg m.h.state (source1 (Csr op rd src imm addr)) → (if imm then src else m.g.a) ≡ source)

@@ -32,6 +32,7 @@ dummy_is : (s : Setup) (h : Story) → IsDummy (item_by s h None)
 unfolding dummy_item
 dummy_is s h = record { parcels = refl; redirects = refl; fences = refl }
 
+-- so an item that was admitted without a choice takes no parcel, and doesn't redirect or fence
 item_is_dummy : (s : Setup) (t : ℕ) (h : Story) → choice_at s t h ≡ None → IsDummy (item_at s t h)
 unfolding item_at
 item_is_dummy s t h k = subst (λ o. IsDummy (item_by s h o)) (sym k) (dummy_is s h)
@@ -112,7 +113,7 @@ stays_in s t h c regs core ti st dm k before granted keep =
         (record { half_low = kp.half_low; pc = kp.pc; ctl = kp.ctl; same_state = refl }) (item_is_dummy s t h k) w m b
         g)
 
--- it takes no parcel
+-- it takes two parcels at most, since it takes none
 no_parcels : (s : Setup) (t : ℕ) (h : Story) → choice_at s t h ≡ None → (item_at s t h).parcels ≤ 2
 no_parcels s t h k = omega (arith, (item_is_dummy s t h k).parcels)
 

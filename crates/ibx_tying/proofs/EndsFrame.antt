@@ -100,13 +100,16 @@ same_count : (v : CsrValues) (b : Bool) → v.mcycle < 2 ^ 64
 same_count v true l = ap (λ n. n % 2 ^ 64) (let e : v.mcycle + 0 ≡ v.mcycle = omega arith in e) ∙ mod-eq_of_lt l
 same_count v false l = refl
 
+-- moving the counters by no cycle changes no register
 pub no_cycles : (v : CsrValues) → v.mcycle < 2 ^ 64 → counters_after v 0 ≡ v
 unfolding counters_after
 no_cycles v l = ap (λ (n : ℕ). record v { mcycle = n }) (same_count v (bit_and v.mcountinhibit 1 == 0) l)
 
+-- a state that stands at c + 1 has no cycle to catch up there
 no_gap : (a c : ℕ) → a ≡ c + 1 → c + 1 - a ≡ 0
 no_gap a c e = omega (arith, e)
 
+-- so at c + 1 such a state has the registers that it stands with
 pub stands_now : (x : State) (c : ℕ) → x.stands ≡ c + 1 → x.csrs.mcycle < 2 ^ 64 → x.csrs ≡ (at_cycle x (c + 1)).csrs
 stands_now x c e l = sym (ap (counters_after x.csrs) (no_gap x.stands c e) ∙ no_cycles x.csrs l)
 
@@ -116,6 +119,7 @@ stands_now x c e l = sym (ap (counters_after x.csrs) (no_gap x.stands c e) ∙ n
 sum_even : (pc : ℕ) → pc % 2 ≡ 0 → pc < 2 ^ 32 → (4 * (pc / 4 + 0) + 2 * (pc / 2 % 2)) % 2 ^ 32 ≡ pc
 sum_even pc e l = omega (arith, e, l)
 
+-- after a redirect the stream is at the target, if that is even
 pub redirected_pc : (k : Settings) (x : Stream) (c pc : ℕ) → pc % 2 ≡ 0 → pc < 2 ^ 32
     → pc_in (redirected k x c pc) (pc / 2 % 2) ≡ pc
 unfolding redirected
@@ -134,6 +138,7 @@ entered_count : (b : Bool) (e : ℕ) (xs : List ℕ)
 entered_count true e xs = length-append xs (e ∷ [])
 entered_count false e xs = refl
 
+-- an item that enters moves the program counter on by two bytes for each parcel
 pub entered_pc : (x : Stream) (half n e : ℕ) → half < 2 → n ≤ 2
     → pc_in (record x { enters = entered half n e x.enters }) ((half + n) % 2) ≡ (pc_in x half + 2 * n) % 2 ^ 32
 entered_pc x half n e l k =
@@ -147,6 +152,7 @@ turned_pc : (k : Settings) (x : Stream) (half c pc : ℕ) (b : Bool) → pc % 2 
 turned_pc k x half c pc true e l f = redirected_pc k x c pc e l
 turned_pc k x half c pc false e l f = f refl
 
+-- the half in which an instruction begins is 0 or 1, after a redirect too
 turned_half : (half pc : ℕ) (b : Bool) → half < 2 → half_after (target_if b pc) half < 2
 turned_half half pc true l = mod_below (pc / 2) 2 (omega arith)
 turned_half half pc false l = l
@@ -183,6 +189,7 @@ continued_is s limit t h c o e d =
     ap (λ x. ended_by s h x (item_at s t h) (done_at s limit t h) (taken s t h)) e
     ∙ ap (λ x. ended_by s h o (item_at s t h) x (taken s t h)) d
 
+-- the event of an item, by its choice and its done cycle
 event_is : (s : Setup) (limit t : ℕ) (h : Story) (c : ℕ) (o : Option Choice) → choice_at s t h ≡ o
     → done_at s limit t h ≡ c → event_at s limit t h ≡ event_by s h o c
 unfolding event_at
@@ -254,11 +261,13 @@ after_ctl : (k : Settings) (d : ℕ) (v : View) (i : Item) (pc : ℕ) (x : Times
 unfolding after_event
 after_ctl k d v i pc x = refl
 
+-- the next instruction begins in half 0 or 1 of its word
 after_half : (k : Settings) (d : ℕ) (v : View) (i : Item) (pc : ℕ) (x : Times) → x.half < 2
     → (after_event k d v i pc x).half < 2
 unfolding after_event
 after_half k d v i pc x l = turned_half x.half pc i.redirects l
 
+-- the stream is at the next program counter, by the redirect or because it follows
 after_pc : (k : Settings) (d : ℕ) (v : View) (i : Item) (pc : ℕ) (x : Times) → pc % 2 ≡ 0 → pc < 2 ^ 32
     → (i.redirects ≡ false → pc_in x.stream x.half ≡ pc)
     → pc_in (after_event k d v i pc x).stream (after_event k d v i pc x).half ≡ pc
@@ -266,6 +275,7 @@ unfolding after_event
 after_pc k d v i pc x e l f =
     turned_pc k (marked i.fences (ctl_after x.ctl v) d x.stream) x.half d pc i.redirects e l f
 
+-- an event changes the dummies by its view alone
 after_dummies : (k : Settings) (d : ℕ) (v : View) (i : Item) (pc : ℕ) (x : Times)
     → (after_event k d v i pc x).dummies ≡ dummies_after x.dummies v
 unfolding after_event

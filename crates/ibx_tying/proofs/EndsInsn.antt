@@ -112,6 +112,7 @@ pub trap_item : (k : Settings) (c : Ctl) (v : View) → v.kind ≡ 1
 unfolding item_of
 trap_item k c v e = rw e refl
 
+-- so it redirects, and it is no fence
 pub is_trap : (k : Settings) (c : Ctl) (v : View) (i : Item) → v.kind ≡ 1 → i ≡ item_of k c v → IsTrap i v
 is_trap k c v i e q =
     let item = q ∙ trap_item k c v e in
@@ -123,6 +124,7 @@ trap_portions : (k : Settings) (c : Ctl) (v : View) (i : Item) → v.kind ≡ 1 
 trap_portions k c v i e a q = ap (λ (j : Item). j.portions) (q ∙ trap_item k c v e)
     ∙ ap (portions_for k c (instruction_of v.word)) a ∙ portions_none k c (instruction_of v.word)
 
+-- its phase is 4, since only a portion's trap has an address
 phase_four : (v : View) → v.kind ≡ 1 → v.addr ≡ None → view_phase (Some v) ≡ 4
 phase_four v e a = rw (e, a) refl
 
@@ -146,6 +148,7 @@ trap_addr : (m : Case) (word cause tval : ℕ) (ops : Option (ℕ × ℕ)) → (
 unfolding view_of
 trap_addr m word cause tval ops e = ap (λ b. if b then Some 0 else None) e
 
+-- its view is of kind 1 whatever the cause
 trap_kind : (m : Case) (word cause tval : ℕ) (ops : Option (ℕ × ℕ))
     → (view_of (trap_step m word ops cause tval).event).kind ≡ 1
 unfolding view_of
@@ -211,12 +214,14 @@ pub row_item : (k : Settings) (c : Ctl) (v : View) (word : ℕ) (insn : Insn) �
 unfolding item_of
 row_item k c v word insn e w q = rw (e, w, q) refl
 
+-- in its last cycle the effect is what its row leaves
 pub retire_effect : (m : Case) (insn : Insn) → m.g.turn ≡ Retire m.i.redirects → m.g.row ≡ Some insn
     → effect_now m ≡ retired_by (Some insn) m.i.redirects m.core m.g m.inn
 unfolding effect_by
 retire_effect m insn e k =
     ap (λ u. effect_by u m.core m.g m.inn) e ∙ ap (λ o. retired_by o m.i.redirects m.core m.g m.inn) k
 
+-- a view of kind 0 makes the last turn a retirement, one that redirects or not
 pub turn_retires : (v : View) (r : Bool) → v.kind ≡ 0 → ending_by (view_phase (Some v)) r ≡ Retire r
 turn_retires v r e = rw e refl
 
@@ -224,11 +229,13 @@ turn_retires v r e = rw e refl
 pub no_trap_phase : (v : View) → v.kind ≡ 0 → (view_phase (Some v) == 4) ≡ false
 no_trap_phase v e = rw e refl
 
+-- only its row and the value for a CSR change the registers that time depends on
 pub after_retired : (c : Ctl) (v : View) (word : ℕ) (insn : Insn) → v.kind ≡ 0 → v.word ≡ word
     → instruction_of word ≡ Some insn → ctl_after c v ≡ ctl_retired c (Some insn) v.ctl
 unfolding ctl_after
 after_retired c v word insn e w q = rw (e, w, q) refl
 
+-- and only they may seed the dummies
 pub seeds : (d : Dummy) (v : View) (word : ℕ) (insn : Insn) → v.kind ≡ 0 → v.word ≡ word
     → instruction_of word ≡ Some insn → dummies_after d v ≡ seed_by d (Some insn) v.ctl
 seeds d v word insn e w q = rw (e, w, q) refl
@@ -245,12 +252,14 @@ pub retire_kind : (m : Case) (word : ℕ) (insn : Insn) (memory : Memory) (csrs 
 unfolding view_of
 retire_kind m word insn memory csrs rd value mem ctl next = refl
 
+-- its view has the word that was executed
 pub retire_word : (m : Case) (word : ℕ) (insn : Insn) (memory : Memory) (csrs : CsrValues) (rd value : ℕ)
     (mem : Option Access) (ctl : Option ℕ) (next : ℕ)
     → (view_of (retire_step m word insn memory csrs rd value mem ctl next).event).word ≡ word
 unfolding view_of
 retire_word m word insn memory csrs rd value mem ctl next = refl
 
+-- its view has the value that it handed to a CSR, if it did
 pub retire_ctl : (m : Case) (word : ℕ) (insn : Insn) (memory : Memory) (csrs : CsrValues) (rd value : ℕ)
     (mem : Option Access) (ctl : Option ℕ) (next : ℕ)
     → (view_of (retire_step m word insn memory csrs rd value mem ctl next).event).ctl ≡ ctl
@@ -267,6 +276,7 @@ pub ticked_ctl : (m : Case) → Known m → m.h.times.ctl ≡ ctl_of (csr_tick (
 ticked_ctl m k =
     k.ctl ∙ sym (ctl_of-counters m.h.state.csrs (m.c - m.h.state.stands)) ∙ sym (ctl_of-tick (now m).csrs true None)
 
+-- the core's fields count a retirement as the registers of the step do
 pub tick_of_core : (m : Case) → Known m → values (ticked m.core) ≡ csr_tick (now m).csrs true None
 unfolding values tick_of csr_tick
 tick_of_core m k = ap (λ w. csr_tick w true None) k.csrs

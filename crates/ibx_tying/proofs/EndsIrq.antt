@@ -51,6 +51,7 @@ found_by : (test : ℕ → Bool) (xs : List ℕ) (x n : ℕ) (b : Bool) → x < 
 found_by test xs x n true l k f e = subst (λ m. m < 32) (let q : x ≡ n = cc in q) l
 found_by test xs x n false l k f e = f e
 
+-- a search among numbers below 32 finds one below 32
 found_low : (test : ℕ → Bool) (xs : List ℕ) (n : ℕ) → AreNumbers xs → find test xs ≡ Some n → n < 32
 found_low test [] n k e = absurd cc
 found_low test (x ∷ xs) n k e = found_by test xs x n (test x) k.0 k.1 (found_low test xs n k.1) e
@@ -106,6 +107,7 @@ pending_by : (b : Bool) (test : ℕ → Bool) (n : ℕ) → (if b then None else
 pending_by true test n e = absurd cc
 pending_by false test n e = found_low test order n order_low e
 
+-- so the interrupt that is pending is below 32, whatever mstatus, mie and the lines are
 pending_low : (machine : Bool) (mstatus mie lines n : ℕ) → pending_of machine mstatus mie lines ≡ Some n → n < 32
 unfolding pending_of
 pending_low machine mstatus mie lines n e =
@@ -117,6 +119,7 @@ kind_number None true n e = absurd cc
 kind_number None false n e = absurd cc
 kind_number (Some m) due n e = cc
 
+-- so an interrupt that is admitted is one of the 32 lines
 pub number_low : (s : Setup) (t : ℕ) (h : Story) (n : ℕ) → kind_of s t h ≡ AnInterrupt n → n < 32
 unfolding kind_at
 number_low s t h n e =
@@ -130,10 +133,12 @@ pub regs_are : (c : Csrs) (r : TrapRegs) → values (with_regs c r) ≡ with_tra
 unfolding values with_regs with_trap_regs
 regs_are c r = refl
 
+-- a trap writes its registers together with their complements
 pub regs_complement : (c : Csrs) (r : TrapRegs) → Complemented c → Complemented (with_regs c r)
 unfolding with_regs
 regs_complement c r k = record { trap = (refl, (refl, (refl, tt))); cfg = k.cfg; low = k.low; high = k.high }
 
+-- the counters have no complement, so all complements stay right as they move
 pub ticked_complement : (c : Csrs) (retired : Bool) (wrote : Option ℕ) → Complemented c
     → Complemented (tick_of c retired wrote)
 unfolding tick_of
@@ -165,10 +170,12 @@ view_kind k x n c = refl
 dummies_stay : (d : Dummy) (v : View) → v.kind ≡ 2 → d ≡ dummies_after d v
 dummies_stay d v e = rw e refl
 
+-- what time depends on is as the entry of an interrupt leaves it
 ctl_enters : (c : Ctl) (v : View) → v.kind ≡ 2 → ctl_after c v ≡ ctl_entered c true
 unfolding ctl_after
 ctl_enters c v e = rw e refl
 
+-- an interrupt's item takes no parcel and no cycle more, and redirects
 item_is : (k : Settings) (c : Ctl) (v : View) → v.kind ≡ 2 → item_of k c v ≡ record (plain 0) { redirects = true }
 unfolding item_of
 item_is k c v e = rw e refl
@@ -205,6 +212,7 @@ interrupts_does k x n c core ctl d i v ev ep ec ed ek kind ei =
     apart : true ≡ false → ⊥
     apart e = cc
 
+-- the state after an interrupt is valid: its handler is at an even address
 pub interrupt_good : (k : Settings) (ram : Ram) (x : State) (n c : ℕ) → IsGood ram x
     → IsGood ram (step_with (lines_in k) x (Interrupt n) c).next
 unfolding step_with interrupted enter_of
@@ -227,6 +235,7 @@ choice_is : (s : Setup) (t : ℕ) (h : Story) (n : ℕ) → kind_of s t h ≡ An
     → choice_at s t h ≡ Some (Interrupt n)
 choice_is s t h n k = ap (choice_by s h) k
 
+-- so is the item that is admitted with an interrupt
 item_of_interrupt : (s : Setup) (t : ℕ) (h : Story) (n : ℕ) → kind_of s t h ≡ AnInterrupt n
     → item_at s t h ≡ record (plain 0) { redirects = true }
 unfolding item_at
@@ -239,6 +248,7 @@ item_of_interrupt s t h n k =
 number_is : (a n : ℕ) → a ≡ n → n < 32 → a % 32 ≡ n
 number_is a n e l = omega (arith, e, l)
 
+-- the turn Irq enters the interrupt that the low five bits of the stage's word tell
 interrupts_after : (x : Core) (g : Sight) (i : In) (turn : Turn) (n : ℕ) → turn ≡ Irq → x.id.word % 32 ≡ n
     → effect_by turn x g i ≡ interrupts x n
 unfolding effect_by
@@ -251,6 +261,7 @@ unfolding written_by
 no_portion_written portions true first second ws e = rw e refl
 no_portion_written portions false first second ws e = refl
 
+-- without a portion the log stays, even if there is an access
 no_portion_writes : (waits : List Wait) (n e : ℕ) (portions : Portions) (o : Option Access) (ws : List Write)
     → portions ≡ NoPortion → writes_with waits n e portions o ws ≡ ws
 no_portion_writes waits n e portions None ws k = refl

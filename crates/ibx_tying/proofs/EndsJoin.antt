@@ -69,10 +69,11 @@ insn_ends m word len Wfi o k t hd = wfi_ends m word len (Lines m) k t hd
 
 -- ---- what the stage holds
 
--- a real item before its trap reads its sources
+-- a valid item of kind 0 is real
 real_by : (valid : Bool) (kind : ℕ) → valid ≡ true → kind ≡ 0 → (valid && kind == 0) ≡ true
 real_by valid kind e k = rw (e, k) refl
 
+-- before phase 4 the register that is read is the row's own source
 phase_by : (insn : Insn) (source : Insn → ℕ) (phase : ℕ) (o : Option Insn) → o ≡ Some insn → phase < 4
     → read_by source (nat_lt phase 4) o ≡ source insn
 phase_by insn source phase o e l = rw (e, lt-ltb phase 4 l) refl
@@ -114,6 +115,7 @@ no_cause : (m : Case) → cause_of m.core.csrs 0 None ≡ Some 2
 unfolding cause_of
 no_cause m = refl
 
+-- a fetch that failed has cause 1, by its first parcel or its second
 fault_cause : (m : Case) (fault : ℕ) → (fault == 0) ≡ false → cause_of m.core.csrs fault None ≡ Some 1
 unfolding cause_of
 fault_cause m fault e = rw e refl

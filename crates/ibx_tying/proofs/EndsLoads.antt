@@ -47,6 +47,7 @@ size_few Lw = omega arith
 size_few Lbu = omega arith
 size_few Lhu = omega arith
 
+-- a byte that is read is below 256, since it is 0 outside RAM
 read_low : (memory : Memory) (a : ℕ) → ((x : ℕ) → memory.byte x < 256) → read_byte memory a < 256
 read_low memory a h = by (ram_has memory.ram a) (memory.byte a) (h a)
   where
@@ -122,6 +123,7 @@ refused_place x addr size at e = record {
       (portion_addr addr true) at e;
 }
 
+-- memory fails an access at its own address or at that of its second portion
 pub error_place : (memory : Memory) (addr size at : ℕ) → error_at memory.ram addr size ≡ Some at → FailsAt addr at
 unfolding error_at
 error_place memory addr size at e =
@@ -131,6 +133,7 @@ error_place memory addr size at e =
           at e;
     }
 
+-- the address of a portion that fails is a word, since the second wraps round
 pub place_low : (addr at : ℕ) → addr < 2 ^ 32 → FailsAt addr at → at < 2 ^ 32
 place_low addr at l f = by f.place
   where

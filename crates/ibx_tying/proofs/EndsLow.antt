@@ -37,17 +37,21 @@ word_low (negsuc n) l = grind arith
 flag_low : (b : Bool) → from_bool b < 2 ^ 32
 flag_low b = omega (arith, flag_small b)
 
+-- a word read as signed has a magnitude below 2 ^ 32
 signed_low : (a : ℕ) → a < 2 ^ 32 → unsigned_abs (signed a) < 2 ^ 32
 signed_low a l = grind arith
 
+-- a quotient is below all that its dividend is below, a division by 0 too
 quotient_low : (a n k : ℕ) → a < k → a / n < k
 quotient_low a n k l = omega (arith, l, div-le_self a n)
 
+-- a signed number that is divided and rounded down keeps its magnitude below 2 ^ 32
 shifted_low : (z : ℤ) (n : ℕ) → unsigned_abs z < 2 ^ 32 → unsigned_abs (int_div_euclid z (pos n)) < 2 ^ 32
 shifted_low (pos a) n l = quotient_low a n (2 ^ 32) l
 shifted_low (negsuc a) n l =
     let k : a / n < 2 ^ 32 - 1 = quotient_low a n (2 ^ 32 - 1) (omega (arith, l)) in omega (arith, k)
 
+-- so an integer computation on two words gives a word
 pub alu_low : (op : AluOp) (a b : ℕ) → a < 2 ^ 32 → b < 2 ^ 32 → alu_of op a b < 2 ^ 32
 unfolding alu_of
 alu_low Add a b l k = mod_below (a + b) (2 ^ 32) (omega arith)
@@ -70,18 +74,22 @@ extended_low : (bits n : ℕ) (b : Bool) → n < 2 ^ 32 → (b ≡ false → n +
 extended_low bits n true l f = l
 extended_low bits n false l f = f refl
 
+-- one byte makes a number below 256
 one_low : (f : ℕ → ℕ) → f 0 < 256 → bytes_number f 1 < 256
 unfolding bytes_number
 one_low f a = omega (arith, a)
 
+-- two bytes make a halfword
 two_low : (f : ℕ → ℕ) → f 0 < 256 → f 1 < 256 → bytes_number f 2 < 2 ^ 16
 unfolding bytes_number
 two_low f a b = omega (arith, a, b)
 
+-- four bytes make a word
 four_low : (f : ℕ → ℕ) → f 0 < 256 → f 1 < 256 → f 2 < 256 → f 3 < 256 → bytes_number f 4 < 2 ^ 32
 unfolding bytes_number
 four_low f a b c d = omega (arith, a, b, c, d)
 
+-- so what a load gives is a word, with its sign or zeros above its bytes
 pub load_low : (op : LoadOp) (m : Memory) (addr : ℕ) → ((x : ℕ) → m.byte x < 256)
     → loaded op (read_bytes m addr (size_of op)) < 2 ^ 32
 unfolding loaded
@@ -106,27 +114,32 @@ load_low Lhu m addr h = omega (
 
 -- ---- products and quotients
 
--- products, their halves and negations, and rests are words
+-- the product of two words has 64 bits
 product_low : (a b : ℕ) → a < 2 ^ 32 → b < 2 ^ 32 → a * b < 2 ^ 64
 product_low zero b l k = omega arith
 product_low (suc a) b l k =
     let m : suc a * b < suc a * 2 ^ 32 = mul-lt-mul_of_pos_left k (omega arith) in omega (arith, l, m)
 
+-- a number of 64 bits stays one, whether its sign is turned or not
 negated_low : (b : Bool) (n : ℕ) → n < 2 ^ 64 → negated 64 b n < 2 ^ 64
 negated_low true n l = mod_below (2 ^ 64 - n) (2 ^ 64) (omega arith)
 negated_low false n l = l
 
+-- the high half of 64 bits is a word
 half_low : (n : ℕ) → n < 2 ^ 64 → n / 2 ^ 32 < 2 ^ 32
 half_low n l = omega (arith, l)
 
+-- either of two words is a word, as where a division by 0 has a result of its own
 if_low : (b : Bool) (m n : ℕ) → m < 2 ^ 32 → n < 2 ^ 32 → (if b then m else n) < 2 ^ 32
 if_low true m n l k = l
 if_low false m n l k = k
 
+-- a word stays a word, whether its sign is turned or not
 negated_word : (b : Bool) (n : ℕ) → n < 2 ^ 32 → negated 32 b n < 2 ^ 32
 negated_word true n l = mod_below (2 ^ 32 - n) (2 ^ 32) (omega arith)
 negated_word false n l = l
 
+-- the rest of a word is a word, by 0 too
 rest_low : (m n : ℕ) → m < 2 ^ 32 → m % n < 2 ^ 32
 rest_low m n l = omega (arith, l, mod-le m n)
 

@@ -101,15 +101,18 @@ reg_zero : (regs : List ℕ) (rd value : ℕ) → slice_index regs 0 ≡ 0 → r
     → slice_index (slice_set regs rd value) 0 ≡ 0
 reg_zero regs rd value e n = get_or-set_other regs rd 0 value 0 (λ k. n (sym k)) ∙ e
 
+-- a write with any destination leaves x0 at 0
 put_zero : (regs : List ℕ) (rd value : ℕ) → slice_index regs 0 ≡ 0 → slice_index (with_reg regs rd value) 0 ≡ 0
 put_zero regs rd value e =
     elim (cases_eq rd 0) [ inl k ↦ rw (eq-eqb rd 0 k) e | inr n ↦ rw (ne_eqb rd 0 n) (reg_zero regs rd value e n) ]
 
+-- a write, dropped or not, leaves as many registers
 put_count : (regs : List ℕ) (rd value : ℕ) (b : Bool)
     → length (if b then regs else slice_set regs rd value) ≡ length regs
 put_count regs rd value true = refl
 put_count regs rd value false = length-set regs rd value
 
+-- a write of a word, dropped or not, leaves words
 put_low : (regs : List ℕ) (rd value : ℕ) (b : Bool) → All (λ v. v < 2 ^ 32) regs → value < 2 ^ 32
     → All (λ v. v < 2 ^ 32) (if b then regs else slice_set regs rd value)
 put_low regs rd value true a l = a

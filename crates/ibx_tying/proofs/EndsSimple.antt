@@ -49,6 +49,7 @@ lui_row rd imm = record {
   parcels = λ k c v n. refl;
 }
 
+-- AUIPC makes no access, and leaves the registers that time depends on
 auipc_row : (rd imm : ℕ) → IsPlainRow (Auipc rd imm)
 unfolding retired_item
 auipc_row rd imm = record {
@@ -60,6 +61,7 @@ auipc_row rd imm = record {
   parcels = λ k c v n. refl;
 }
 
+-- JAL is plain, with an item that only redirects
 jal_row : (rd imm : ℕ) → IsPlainRow (Jal rd imm)
 unfolding retired_item
 jal_row rd imm = record {
@@ -71,6 +73,7 @@ jal_row rd imm = record {
   parcels = λ k c v n. refl;
 }
 
+-- JALR is as plain as JAL, though its target comes from a register
 jalr_row : (rd rs1 imm : ℕ) → IsPlainRow (Jalr rd rs1 imm)
 unfolding retired_item
 jalr_row rd rs1 imm = record {
@@ -82,6 +85,7 @@ jalr_row rd rs1 imm = record {
   parcels = λ k c v n. refl;
 }
 
+-- each computation with an immediate is plain
 alu_imm_row : (op : AluOp) (rd rs1 imm : ℕ) → IsPlainRow (AluImm op rd rs1 imm)
 unfolding retired_item
 alu_imm_row op rd rs1 imm = record {
@@ -93,6 +97,7 @@ alu_imm_row op rd rs1 imm = record {
   parcels = λ k c v n. refl;
 }
 
+-- each computation on two registers is plain
 alu_row : (op : AluOp) (rd rs1 rs2 : ℕ) → IsPlainRow (Alu op rd rs1 rs2)
 unfolding retired_item
 alu_row op rd rs1 rs2 = record {
@@ -104,6 +109,7 @@ alu_row op rd rs1 rs2 = record {
   parcels = λ k c v n. refl;
 }
 
+-- each multiplication or division is plain: its item may only cost more
 md_row : (op : MdOp) (rd rs1 rs2 : ℕ) → IsPlainRow (MulDiv op rd rs1 rs2)
 unfolding retired_item
 md_row op rd rs1 rs2 = record {
@@ -115,6 +121,7 @@ md_row op rd rs1 rs2 = record {
   parcels = λ k c v n. refl;
 }
 
+-- FENCE is plain: only FENCE.I fences
 fence_row : IsPlainRow Fence
 unfolding retired_item
 fence_row = record {
@@ -126,6 +133,7 @@ fence_row = record {
   parcels = λ k c v n. refl;
 }
 
+-- WFI is plain, with an item that only sleeps
 wfi_row : IsPlainRow Wfi
 unfolding retired_item
 wfi_row = record {
@@ -137,12 +145,13 @@ wfi_row = record {
   parcels = λ k c v n. refl;
 }
 
--- a branch that is taken costs a cycle more, and is a plain row too
+-- a branch, turned or not, leaves the fences, portions and parcels of its item
 branch_by : (b : Bool) (i : Item) → ((branching b i).fences ≡ i.fences) × ((branching b i).portions ≡ i.portions)
     × ((branching b i).parcels ≡ i.parcels)
 branch_by true i = (refl, refl, refl)
 branch_by false i = (refl, refl, refl)
 
+-- a branch is plain, though it may cost a cycle more and redirect
 branch_row : (op : BranchOp) (rs1 rs2 imm : ℕ) → IsPlainRow (Branch op rs1 rs2 imm)
 unfolding retired_item
 branch_row op rs1 rs2 imm = record {
@@ -168,6 +177,7 @@ unfolding execute finished retired_by
 lui_ends m word len lines rd imm k t hd =
     follow_ends m word len rd imm imm (Lui rd imm) (lui_row rd imm) k t hd refl refl hd.well.1
 
+-- AUIPC ends as its step, with the sum of program counter and immediate
 pub auipc_ends : (m : Case) (word len lines rd imm : ℕ) → RowEnds m word len lines (Auipc rd imm)
 unfolding execute finished retired_by
 auipc_ends m word len lines rd imm k t hd =
@@ -175,6 +185,7 @@ auipc_ends m word len lines rd imm k t hd =
     (auipc_row rd imm) k t hd refl
     (ap (λ pc. (pc + imm) % 2 ^ 32) k.pc) (mod_below (m.h.state.pc + imm) (2 ^ 32) (omega arith))
 
+-- a computation with an immediate ends as its step, since the stage reads the state's register
 pub alu_imm_ends : (m : Case) (word len lines rd rs1 imm : ℕ) (op : AluOp)
     → RowEnds m word len lines (AluImm op rd rs1 imm)
 unfolding execute finished retired_by
@@ -186,6 +197,7 @@ alu_imm_ends m word len lines rd rs1 imm op k t hd =
     (ap (λ a. alu_of op a imm) ops.0)
     (alu_low op (reg m.h.state rs1) imm (low_reg m.s.image.ram m.h.state rs1 k.good hd.well.1) hd.well.2)
 
+-- so does a computation on two registers
 pub alu_ends : (m : Case) (word len lines rd rs1 rs2 : ℕ) (op : AluOp) → RowEnds m word len lines (Alu op rd rs1 rs2)
 unfolding execute finished retired_by
 alu_ends m word len lines rd rs1 rs2 op k t hd =
@@ -197,7 +209,7 @@ alu_ends m word len lines rd rs1 rs2 op k t hd =
     (alu_low op (reg m.h.state rs1) (reg m.h.state rs2) (low_reg m.s.image.ram m.h.state rs1 k.good hd.well.1)
     (low_reg m.s.image.ram m.h.state rs2 k.good hd.well.2))
 
--- the unit's result is the value
+-- a product or quotient ends as its step, if the unit's result is its value
 pub md_ends : (m : Case) (word len lines rd rs1 rs2 : ℕ) (op : MdOp)
     → result_of m.g.md ≡ md_value op (reg m.h.state rs1) (reg m.h.state rs2)
     → md_value op (reg m.h.state rs1) (reg m.h.state rs2) < 2 ^ 32 → RowEnds m word len lines (MulDiv op rd rs1 rs2)
@@ -241,6 +253,7 @@ jal_ends m word len lines rd imm k t hd =
     (let pe = k.good.pc_even in let ie : imm % 2 ≡ 0 = hd.well.2 in omega (arith, pe, ie))
     (mod_below (m.h.state.pc + imm) (2 ^ 32) (omega arith))
 
+-- JALR ends as its step: its target has bit 0 cleared, so it is even
 pub jalr_ends : (m : Case) (word len lines rd rs1 imm : ℕ) → RowEnds m word len lines (Jalr rd rs1 imm)
 unfolding execute finished retired_by retired_item
 jalr_ends m word len lines rd rs1 imm k t hd =
@@ -283,11 +296,13 @@ turned_item fixed op a b n true e q =
 turned_item fixed op a b n false e q =
     apart (sym (ap (λ f. (branching (is_turned f op None) (plain n)).redirects) e) ∙ q)
 
+-- an even offset keeps the next program counter even, taken or not
 branch_even : (b : Bool) (pc imm next : ℕ) → pc % 2 ≡ 0 → imm % 2 ≡ 0 → next % 2 ≡ 0
     → (if b then (pc + imm) % 2 ^ 32 else next) % 2 ≡ 0
 branch_even true pc imm next p q r = omega (arith, p, q)
 branch_even false pc imm next p q r = r
 
+-- the next program counter is a word, taken or not
 branch_low : (b : Bool) (pc imm next : ℕ) → next < 2 ^ 32 → (if b then (pc + imm) % 2 ^ 32 else next) < 2 ^ 32
 branch_low true pc imm next r = mod_below (pc + imm) (2 ^ 32) (omega arith)
 branch_low false pc imm next r = r
@@ -298,6 +313,7 @@ branch_view : (m : Case) (word rd value next : ℕ) (insn : Insn)
 unfolding view_of
 branch_view m word rd value next insn = refl
 
+-- bit 1 of cpuctrl, which fixes timing, hides the operands
 free_operands : (m : Case) (insn : Insn)
     → operands (now m) insn ≡ (if bit_and m.h.state.csrs.cpuctrl 2 == 0
     then Some (reg m.h.state (source1 insn), reg m.h.state (source2 insn)) else None)
@@ -351,9 +367,11 @@ call_cause : (b : Bool) → (((if b then 11 else 8) == 5 || (if b then 11 else 8
 call_cause true = (refl, refl, refl)
 call_cause false = (refl, refl, refl)
 
+-- any cause but a fetch's and an illegal word's leaves mtval at 0
 call_tval : (x : Core) (cause : ℕ) → (cause == 1) ≡ false → (cause == 2) ≡ false → tval_of x cause ≡ 0
 call_tval x cause e k = rw (e, k) refl
 
+-- any cause but a fetch's shows the stage's word
 call_word : (cause word stage : ℕ) → (cause == 1) ≡ false → stage ≡ word → (if cause == 1 then 0 else stage) ≡ word
 call_word cause word stage e k = rw e k
 
@@ -380,6 +398,7 @@ break_is : (m : Case) → cause_of m.core.csrs 0 (Some Ebreak) ≡ Some 3
 unfolding cause_of
 break_is m = refl
 
+-- EBREAK ends as its step, with mtval 0
 pub ebreak_ends : (m : Case) (word len lines : ℕ) → RowEnds m word len lines Ebreak
 unfolding execute finished
 ebreak_ends m word len lines k t hd =
@@ -414,6 +433,7 @@ wait_by m word len true e k t hd = follow_ends m word len 0 0 0 Wfi wfi_row k t 
 wait_by m word len false e k t hd =
     illegal_ends m word (operands (now m) Wfi) k t (hd.cause ∙ wait_cause m k e) hd.fetched hd.word_low
 
+-- so every WFI ends as its step
 pub wfi_ends : (m : Case) (word len lines : ℕ) → RowEnds m word len lines Wfi
 unfolding execute
 wfi_ends m word len lines k t hd = wait_by m word len (may_wait (now m).csrs) refl k t hd

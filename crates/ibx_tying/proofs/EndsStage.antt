@@ -40,6 +40,7 @@ put_by : (m : Memory) (a v : ℕ) (b : Bool) → ((x : ℕ) → m.byte x < 256) 
 put_by m a v true h = mod_below v 256 (omega arith)
 put_by m a v false h = h a
 
+-- a byte of memory stays below 256 after a store, in its range or out of it
 pub put_low : (m : Memory) (addr from to value a : ℕ) → ((x : ℕ) → m.byte x < 256)
     → (with_bytes m addr from to value).byte a < 256
 unfolding with_bytes
@@ -47,10 +48,12 @@ put_low m addr from to value a h =
     put_by m a _ (ram_has m.ram a && (nat_le from ((a + 2 ^ 32 - addr) % 2 ^ 32)
     && nat_lt ((a + 2 ^ 32 - addr) % 2 ^ 32) to)) h
 
+-- either of two memories holds a byte there, by whether a write shows yet
 if_low : (b : Bool) (m n : Memory) (a : ℕ) → m.byte a < 256 → n.byte a < 256 → (if b then m else n).byte a < 256
 if_low true m n a h k = h
 if_low false m n a h k = k
 
+-- from the image on, memory holds bytes with any log of writes at any time
 pub log_low : (s : Setup) (log : List Write) (t a : ℕ) → IsPlaced s
     → (memory_at (image_memory s.image) log t).byte a < 256
 unfolding memory_at
@@ -66,13 +69,16 @@ read_by_low : (b : Bool) (v : ℕ) → v < 256 → (if b then v else 0) < 256
 read_by_low true v l = l
 read_by_low false v l = omega arith
 
+-- a read gives a byte, which is 0 outside RAM
 pub read_low : (m : Memory) (a : ℕ) → ((x : ℕ) → m.byte x < 256) → read_byte m a < 256
 read_low m a h = read_by_low (ram_has m.ram a) (m.byte a) (h a)
 
+-- two bytes make a halfword
 pair_low : (f : ℕ → ℕ) → f 0 < 256 → f 1 < 256 → bytes_number f 2 < 2 ^ 16
 unfolding bytes_number
 pair_low f a b = omega (arith, a, b)
 
+-- so a parcel that memory gives is a halfword
 pub parcel_low : (m : Memory) (addr : ℕ) → ((x : ℕ) → m.byte x < 256) → read_bytes m addr 2 < 2 ^ 16
 parcel_low m addr h = pair_low (λ k. read_byte m ((addr + k) % 2 ^ 32)) (read_low m ((addr + 0) % 2 ^ 32) h)
     (read_low m ((addr + 1) % 2 ^ 32) h)
@@ -102,9 +108,11 @@ fault_by : (b : Bool) → ((if b then 1 else 2) == 0) ≡ false
 fault_by true = refl
 fault_by false = refl
 
+-- a fault of the first parcel gives back the program counter
 first_address : (pc : ℕ) → faulted (fault_of pc (Unsound pc)) pc ≡ pc
 first_address pc = ap (λ b. faulted (if b then 1 else 2) pc) (eq-eqb pc pc refl)
 
+-- a fault of the second parcel gives back the address two bytes on
 second_address : (pc : ℕ) → pc < 2 ^ 32 → faulted (fault_of pc (Unsound ((pc + 2) % 2 ^ 32))) pc ≡ (pc + 2) % 2 ^ 32
 second_address pc l = ap (λ b. faulted (if b then 1 else 2) pc) (next_apart pc l)
 
@@ -140,6 +148,7 @@ row_if : (valid kind fault : Bool) (o : Option Insn) → valid ≡ true → kind
     → (if valid && kind && fault then o else None) ≡ (if b then o else None)
 row_if valid kind fault o e k b m = rw (e, k, m) refl
 
+-- an instruction's kind, 0, is one that may have a row; an interrupt's isn't
 kind_low : (n : ℕ) → n ≡ 0 → nat_lt n 2 ≡ true
 kind_low n e = lt-ltb n 2 (omega (arith, e))
 
@@ -148,6 +157,7 @@ pub stage_word_is : (pc word len : ℕ) (id : IdState) → IsFetch pc (Instructi
     → Fields pc (Instruction word len) id → stage_word id ≡ word
 stage_word_is pc word len id g f = ap in_stage f.word ∙ g.1
 
+-- the stage decodes what was fetched, so its row is that instruction, or none
 pub row_is : (pc word len : ℕ) (id : IdState) → IsFetch pc (Instruction word len) → Fields pc (Instruction word len) id
     → row_of id ≡ instruction_of word
 row_is pc word len id g f =
@@ -155,6 +165,7 @@ row_is pc word len id g f =
     (kind_low id.kind f.kind) true (ap (λ n. n == 0) f.fault)
     ∙ ap instruction_of (stage_word_is pc word len id g f)
 
+-- after a fetch that failed the stage has no row
 pub no_row : (pc addr : ℕ) (id : IdState) → IsFetch pc (Unsound addr) → Fields pc (Unsound addr) id → row_of id ≡ None
 no_row pc addr id g f =
     row_if id.valid (nat_lt id.kind 2) (id.fault == 0) (instruction_of (stage_word id)) f.valid
@@ -175,6 +186,7 @@ payload_in regs xs n e l k a =
     ∙ ap (payload_of 32) (get_or-map (encode_of 32 7) xs n 0 0 inside)
     ∙ payload_of-encode 32 7 (slice_index xs n) (All-get_or (λ v. v < 2 ^ 32) xs n 0 inside a)
 
+-- so a codeword that is read, without its check bits, is the state's register, x0 too
 pub operand : (x : State) (regs : List ℕ) (n : ℕ) → regs ≡ map (encode_of 32 7) x.regs → n < 32 → length x.regs ≡ 32
     → All (λ v. v < 2 ^ 32) x.regs → slice_index x.regs 0 ≡ 0 → payload_of 32 (slice_index regs n) ≡ reg x n
 operand x regs n e l k a z = payload_in regs x.regs n e l k a ∙ reg_is x n z

@@ -97,6 +97,7 @@ refused_by_tests false false r2 p q at e = absurd (none at e)
     none : (y : ℕ) → None ≡ Some y → ⊥
     none y e = cc
 
+-- where it refuses no address, it refuses neither portion
 allowed_by_tests : (r1 hs r2 : Bool) (p q : ℕ) → (if r1 then Some p else if hs && r2 then Some q else None) ≡ None
     → (r1 || (hs && r2)) ≡ false
 allowed_by_tests true hs r2 p q e = absurd (some p e)
@@ -171,6 +172,7 @@ module _ (s : Setup) (t : ℕ) (h : Story) (c addr size v : ℕ)
     unfolding taken
     writes_are portions e = ap₂ (λ p o. writes_with s.plan.dwaits h.times.made (t + 1) p o h.writes) e there
 
+    -- its portions are told by the state's tests, whatever cycles were counted
     portions_are : (item_at s t h).portions ≡ portions_at (settings_of s) h.times.ctl addr size Writes
         → (item_at s t h).portions ≡ portions_by (r1 || (hs && r2)) u1 hs u2
     unfolding counters_after
@@ -201,6 +203,7 @@ module _ (s : Setup) (t : ℕ) (h : Story) (c addr size v : ℕ)
         twice true = refl
         twice false = refl
 
+    -- where protection allows it, the writes of its portions leave in memory what the step stores
     pub stored_memory : refused_at x.csrs addr size Writes ≡ None
         → (item_at s t h).portions ≡ portions_at (settings_of s) h.times.ctl addr size Writes
         → stored h.state.memory addr size v ≡ memory_at (image_memory s.image) (taken s t h).writes c

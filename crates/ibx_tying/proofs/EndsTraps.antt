@@ -39,6 +39,7 @@ pub record IsTrap (i : Item) (v : View) : Type 0 where
 dummies_stay : (d : Dummy) (v : View) → v.kind ≡ 1 → d ≡ dummies_after d v
 dummies_stay d v e = rw e refl
 
+-- what time depends on is as the entry of an exception leaves it
 ctl_enters : (c : Ctl) (v : View) → v.kind ≡ 1 → ctl_after c v ≡ ctl_entered c false
 unfolding ctl_after
 ctl_enters c v e = rw e refl
@@ -55,6 +56,7 @@ ticked_target : (w : CsrValues) (cause : ℕ)
 unfolding csr_tick
 ticked_target w cause = refl
 
+-- the entry takes the same of the trap's registers before and after the counters move
 ticked_entry : (w : CsrValues) (pc cause tval : ℕ)
     → with_trap_regs (csr_tick w false None) (enter_of (trap_regs w) pc cause false tval)
     ≡ with_trap_regs (csr_tick w false None) (enter_of (trap_regs (csr_tick w false None)) pc cause false tval)

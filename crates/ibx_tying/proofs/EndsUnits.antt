@@ -63,6 +63,7 @@ portion_some : (b : Bool) → portion_code b + 1 ≢ 0
 portion_some true e = absurd (omega (arith, e))
 portion_some false e = absurd (omega (arith, e))
 
+-- what the stage sees as an access can't be none
 some_none : (w : Access) → Some w ≡ None → ⊥
 some_none w e = cc
 
@@ -75,6 +76,7 @@ record IsAccessRow (insn : Insn) : Type 0 where
 load_row : (op : LoadOp) (rd rs1 imm : ℕ) → IsAccessRow (Load op rd rs1 imm)
 load_row op rd rs1 imm = record { no_wfi = λ e. cc; sees = λ a b e. cc }
 
+-- a store is no WFI, and makes an access with any operands
 store_row : (size rs1 rs2 imm : ℕ) → IsAccessRow (Store size rs1 rs2 imm)
 store_row size rs1 rs2 imm = record { no_wfi = λ e. cc; sees = λ a b e. cc }
 
@@ -116,6 +118,7 @@ module _ (s : Setup) (limit t : ℕ) (h : Story) (st : System) (ok : IsPlaced s)
       (subst (λ f. Rattle.ibx_tying.proofs.EndsStage.Fields h.state.pc f st.main.id) e
       (fields_are s t h st.cycle st.main.id i k a)) ∙ d
 
+  -- the item's access is that of the instruction, by the state's registers
   access_is : (word len : ℕ) (insn : Insn) → what s h ≡ Instruction word len → instruction_of word ≡ Some insn
       → access_at s t h ≡ access_of h.state (Some insn)
   unfolding access_at
@@ -126,12 +129,14 @@ module _ (s : Setup) (limit t : ℕ) (h : Story) (st : System) (ok : IsPlaced s)
       ((arch_fetches s st.cycle h (first_of_pair s h) (second_of_pair s h) i).word ∙ ap fetched_word e)
       ∙ ap (access_of h.state) d
 
+  -- the step in this cycle executes that instruction
   step_there : (word len : ℕ) (insn : Insn) → what s h ≡ Instruction word len → instruction_of word ≡ Some insn
       → step_now s h st.cycle ≡ insn_step m word len (Lines m) insn
   step_there word len insn e d =
       ap (after_fetch (at_cycle h.state st.cycle) st.cycle (lines_in (settings_of s) st.cycle)) e
       ∙ ap (decoded (at_cycle h.state st.cycle) st.cycle word len (lines_in (settings_of s) st.cycle)) d
 
+  -- where its step is no trap, the item has no phase of a trap
   phase_zero : (word len : ℕ) (insn : Insn) → what s h ≡ Instruction word len → instruction_of word ≡ Some insn
       → view_phase (Some (view_of (insn_step m word len (Lines m) insn).event)) ≡ 0 → trap_phase s t h ≡ 0
   phase_zero word len insn e d z = phase_by_view s t h st.cycle k
@@ -141,6 +146,7 @@ module _ (s : Setup) (limit t : ℕ) (h : Story) (st : System) (ok : IsPlaced s)
   sight : Sees s t h st.cycle st.main.id v
   sight = arch_sees s limit t h st.cycle st.main.next_pc st.main.id st.main.csrs st.regs ok ti i a ph
 
+  -- what the stage holds is real, by its valid bit and its kind
   real_there : is_real st.main.id ≡ true
   real_there = let f = fields_are s t h st.cycle st.main.id i k a in ap₂ (λ b x. b && x == 0) f.valid f.kind
 
@@ -164,6 +170,7 @@ module _ (s : Setup) (limit t : ℕ) (h : Story) (st : System) (ok : IsPlaced s)
   load_writes Two x y ws = refl
   load_writes TwoBad x y ws = refl
 
+  -- so a load leaves the log as it was
   load_taken : (op : LoadOp) (rs1 imm : ℕ) → access_at s t h ≡ Some (load_access m op rs1 imm)
       → (taken s t h).writes ≡ h.writes
   unfolding taken
@@ -193,6 +200,7 @@ module _ (s : Setup) (limit t : ℕ) (h : Story) (st : System) (ok : IsPlaced s)
 
   -- ---- a product or a quotient
 
+  -- a product or quotient ends as its step, since the unit has counted the item's cost
   md_other : (word len rd rs1 rs2 : ℕ) (op : MdOp) → what s h ≡ Instruction word len
       → instruction_of word ≡ Some (MulDiv op rd rs1 rs2) → RowEnds m word len (Lines m) (MulDiv op rd rs1 rs2)
   md_other word len rd rs1 rs2 op e d kn me hd =
@@ -209,6 +217,7 @@ module _ (s : Setup) (limit t : ℕ) (h : Story) (st : System) (ok : IsPlaced s)
 
   -- ---- a store
 
+  -- a store ends as its step, since memory has its writes, or none where protection refuses it
   store_other : (word len size rs1 rs2 imm : ℕ) → what s h ≡ Instruction word len
       → instruction_of word ≡ Some (Store size rs1 rs2 imm) → RowEnds m word len (Lines m) (Store size rs1 rs2 imm)
   store_other word len size rs1 rs2 imm e d =
@@ -245,11 +254,13 @@ module _ (s : Setup) (limit t : ℕ) (h : Story) (st : System) (ok : IsPlaced s)
   row_other word len Mret e d = tt
   row_other word len Wfi e d = tt
 
+  -- a word that is no instruction asks nothing of the units
   word_other : (word len : ℕ) → what s h ≡ Instruction word len → (o : Option Insn) → instruction_of word ≡ o
       → IfSome o (OthersEnd m word len)
   word_other word len e None d = tt
   word_other word len e (Some insn) d = row_other word len insn e d
 
+  -- nor does a fetch that failed
   pub others : (f : Fetched) → what s h ≡ f → OthersIn m f
   others (Unsound addr) e = tt
   others (Instruction word len) e = word_other word len e (instruction_of word) refl

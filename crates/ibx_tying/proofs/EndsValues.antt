@@ -37,10 +37,12 @@ counted_low : (count : ℕ) (b : Bool) → count < 2 ^ 64 → counted count b < 
 counted_low count true l = l
 counted_low count false l = mod_below (count + 1) (2 ^ 64) (omega arith)
 
+-- a counter keeps its 64 bits over any number of cycles, inhibited or not
 later_low : (count n : ℕ) (b : Bool) → count < 2 ^ 64 → (if b then (count + n) % 2 ^ 64 else count) < 2 ^ 64
 later_low count n true l = mod_below (count + n) (2 ^ 64) (omega arith)
 later_low count n false l = l
 
+-- a cycle moves the counters, and all registers stay in their widths
 pub tick_values : (v : CsrValues) (retired : Bool) (wrote : Option ℕ) → IsValues v
     → IsValues (csr_tick v retired wrote)
 unfolding csr_tick
@@ -61,6 +63,7 @@ tick_values v retired wrote i = record {
   minstret = counted_low v.minstret (minstret_stands v.mcountinhibit retired wrote) i.minstret;
 }
 
+-- so they do over any number of cycles
 pub later_values : (v : CsrValues) (n : ℕ) → IsValues v → IsValues (counters_after v n)
 unfolding counters_after
 later_values v n i = record {
@@ -107,15 +110,18 @@ target_even : (b : Bool) (base cause : ℕ) → base % 2 ≡ 0 → (if b then (b
 target_even true base cause e = omega (arith, e)
 target_even false base cause e = e
 
+-- an interrupt's vector wraps round, so a handler's address is a word
 target_low : (b : Bool) (base cause : ℕ) → base < 2 ^ 32 → (if b then (base + 4 * cause) % 2 ^ 32 else base) < 2 ^ 32
 target_low true base cause l = mod_below (base + 4 * cause) (2 ^ 32) (omega arith)
 target_low false base cause l = l
 
+-- a trap enters at an even address, since mtvec's base has its low byte cleared
 pub enter_even : (r : TrapRegs) (cause : ℕ) (irq : Bool) → enter_target r cause irq % 2 ≡ 0
 unfolding enter_target
 enter_even r cause irq =
     target_even irq (bit_and r.mtvec (2 ^ 32 - 1 - 0xff)) cause (masked_even r.mtvec (2 ^ 32 - 1 - 0xff) refl)
 
+-- a trap enters at an address of 32 bits
 pub enter_low : (r : TrapRegs) (cause : ℕ) (irq : Bool) → enter_target r cause irq < 2 ^ 32
 unfolding enter_target
 enter_low r cause irq =
@@ -127,20 +133,25 @@ enter_low r cause irq =
 and_byte : (b mask : ℕ) → mask < 256 → bit_and b mask < 256
 and_byte b mask l = omega (arith, l, and_le_r b mask)
 
+-- a byte that is made legal is masked, so it is below 256 whatever was written
 legal_low : (t : Bool) (b : ℕ) → (if t then bit_and b 0x9d else bit_and b 0x9f) < 256
 legal_low true b = and_byte b 0x9d (omega arith)
 legal_low false b = and_byte b 0x9f (omega arith)
 
+-- either of two bytes is one: the new byte, or the old one under a lock
 kept_low : (t : Bool) (old new : ℕ) → old < 256 → new < 256 → (if t then new else old) < 256
 kept_low true old new l k = k
 kept_low false old new l k = l
 
+-- so a byte of configuration is one after a write
 byte_low : (old new : ℕ) → old < 256 → kept_byte old new < 256
 byte_low old new l = kept_low (bit_and old 0x80 == 0) old (legal_byte new) l (legal_low (bit_and new 3 == 2) new)
 
+-- four bytes make a word
 four_bytes : (a b c d : ℕ) → a < 256 → b < 256 → c < 256 → d < 256 → from_le_bytes w32 (a ∷ b ∷ c ∷ d ∷ []) < 2 ^ 32
 four_bytes a b c d h i j k = omega (arith, h, i, j, k)
 
+-- so a word of configuration is a word after any write
 cfg_low : (old v : ℕ) → stored_cfg old v < 2 ^ 32
 cfg_low old v =
     four_bytes (kept_byte (word_byte old 0) (word_byte v 0)) (kept_byte (word_byte old 1) (word_byte v 1))
@@ -175,6 +186,7 @@ addr_by false v k w i l = record {
 low_half : (count w : ℕ) → count < 2 ^ 64 → w < 2 ^ 32 → count / 2 ^ 32 * 2 ^ 32 + w < 2 ^ 64
 low_half count w l k = omega (arith, l, k)
 
+-- a new high half and the old low one make 64 bits
 high_half : (count w : ℕ) → w < 2 ^ 32 → w * 2 ^ 32 + count % 2 ^ 32 < 2 ^ 64
 high_half count w k = omega (arith, k)
 
@@ -411,10 +423,12 @@ put_values v Minstreth w i l = record {
 }
 put_values v _ w i l = i
 
+-- with a register at the address or without one, which changes nothing
 put_at_values : (v : CsrValues) (w : ℕ) (o : Option Csr) → IsValues v → w < 2 ^ 32 → IsValues (put_at v w o)
 put_at_values v w None i l = i
 put_at_values v w (Some c) i l = put_values v c w i l
 
+-- so a CSR instruction that writes a word leaves all registers in their widths
 pub write_values : (v : CsrValues) (a w : ℕ) → IsValues v → w < 2 ^ 32 → IsValues (csr_write v a w)
 unfolding csr_write
 write_values v a w i l = put_at_values v w (writable v.machine a) i l
@@ -426,9 +440,11 @@ item_low : (xs : List ℕ) (k : ℕ) → All (λ x. x < 2 ^ 32) xs → slice_ind
 item_low xs k a = elim (cases_lt k (length xs))
     [ inl h ↦ a k 0 h | inr h ↦ subst (λ x. x < 2 ^ 32) (sym (get_or_past xs k 0 h)) (omega arith) ]
 
+-- the low half of a counter is a word, since it is a rest
 low_portion : (n : ℕ) → n % 2 ^ 32 < 2 ^ 32
 low_portion n = mod_below n (2 ^ 32) (omega arith)
 
+-- the high half of 64 bits is a word
 high_portion : (n : ℕ) → n < 2 ^ 64 → n / 2 ^ 32 < 2 ^ 32
 high_portion n l = omega (arith, l)
 

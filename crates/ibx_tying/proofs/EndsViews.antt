@@ -47,6 +47,7 @@ same_load x a b word ops op rd addr next (Some at) e = refl
 same_load x a b word ops op rd addr next None (Some at) = refl
 same_load x a b word ops op rd addr next None None = refl
 
+-- a store has one view, refused, unanswered or done
 same_store : (x : State) (a b word : ℕ) (ops : Option (ℕ × ℕ)) (size addr value next : ℕ) (r e : Option ℕ)
     → SameView x a b word ops (store_with (at_cycle x a) size addr value next r e)
     (store_with (at_cycle x b) size addr value next r e)
@@ -68,6 +69,7 @@ handed_same : (control : Bool) (op : CsrOp) (source m n : ℕ) → (control ≡ 
 handed_same true op source m n e = ap (λ old. Some (written op old source)) (e refl)
 handed_same false op source m n e = refl
 
+-- a CSR write has one view, if a register that controls the core is read the same in both cycles
 same_handed : (x : State) (a b word : ℕ) (ops : Option (ℕ × ℕ)) (op : CsrOp) (rd source addr next m n : ℕ)
     → (is_control_at addr ≡ true → m ≡ n)
     → SameView x a b word ops (handed (at_cycle x a) op rd source addr next m)
@@ -83,6 +85,7 @@ same_illegal : (x : State) (a b word : ℕ) (ops : Option (ℕ × ℕ))
 unfolding finished view_of
 same_illegal x a b word ops = refl
 
+-- what retires has one view whatever value it writes, since a view tells none
 same_plain : (x : State) (a b word : ℕ) (ops : Option (ℕ × ℕ)) (rd m n next : ℕ)
     → SameView x a b word ops (plain (at_cycle x a) rd m next) (plain (at_cycle x b) rd n next)
 unfolding finished view_of
@@ -109,6 +112,7 @@ same_written x a b word ops op rd src source addr next m n test e p q =
     (illegal (at_cycle x b) word) (handed (at_cycle x b) op rd source addr next n)
     (same_illegal x a b word ops) (same_handed x a b word ops op rd source addr next m n e)))
 
+-- by the register at the address: none is illegal in both cycles, and a control register is steady
 same_csr_by : (x : State) (a b la lb word : ℕ) (ops : Option (ℕ × ℕ)) (op : CsrOp) (rd src source addr next : ℕ)
     (o : Option Name) → IfSome o (IsNamedSo addr)
     → SameView x a b word ops (csr_with (at_cycle x a) op rd src source addr word next
@@ -120,6 +124,7 @@ same_csr_by x a b la lb word ops op rd src source addr next (Some name) k =
     (value_of (at_cycle x b).csrs name lb) (csr_can_write (at_cycle x b).csrs addr)
     (λ e. same_value x.csrs (a - x.stands) (b - x.stands) la lb name (k.steady e)) (same_can x a b addr) refl
 
+-- so a CSR instruction has one view, whatever the counters and the interrupt lines are
 same_csr : (x : State) (a b la lb word : ℕ) (ops : Option (ℕ × ℕ)) (op : CsrOp) (rd src source addr next : ℕ)
     → SameView x a b word ops (csr_access (at_cycle x a) op rd src source addr word next la)
     (csr_access (at_cycle x b) op rd src source addr word next lb)
@@ -136,6 +141,7 @@ unfolding finished view_of counters_after
 same_return x a b word ops true = refl
 same_return x a b word ops false = refl
 
+-- WFI has one view, whether it may wait or is illegal
 same_wait : (x : State) (a b word next : ℕ) (ops : Option (ℕ × ℕ)) (may : Bool)
     → SameView x a b word ops (if may then plain (at_cycle x a) 0 0 next else illegal (at_cycle x a) word)
     (if may then plain (at_cycle x b) 0 0 next else illegal (at_cycle x b) word)
@@ -148,11 +154,13 @@ same_operands : (x : State) (a b : ℕ) (insn : Insn) → operands (at_cycle x a
 unfolding operands counters_after
 same_operands x a b insn = refl
 
+-- protection refuses a read at the same address in every cycle
 same_refused : (x : State) (a b addr size : ℕ)
     → refused_at (at_cycle x a).csrs addr size Read ≡ refused_at (at_cycle x b).csrs addr size Read
 unfolding refused_at counters_after
 same_refused x a b addr size = refl
 
+-- protection refuses a write at the same address in every cycle
 same_denied : (x : State) (a b addr size : ℕ)
     → refused_at (at_cycle x a).csrs addr size Write ≡ refused_at (at_cycle x b).csrs addr size Write
 unfolding refused_at counters_after
@@ -193,6 +201,7 @@ same_row x a b la lb word len ops Ebreak = refl
 same_row x a b la lb word len ops Mret = same_return x a b word ops x.csrs.machine
 same_row x a b la lb word len ops Wfi = same_wait x a b word ((x.pc + len) % 2 ^ 32) ops (may_wait x.csrs)
 
+-- a decoded word has one view, and so has a word that is no instruction
 same_decoded : (x : State) (a b la lb word len : ℕ) (o : Option Insn)
     → view_of (decoded (at_cycle x a) a word len la o).event ≡ view_of (decoded (at_cycle x b) b word len lb o).event
 same_decoded x a b la lb word len None = same_illegal x a b word None
@@ -200,6 +209,7 @@ same_decoded x a b la lb word len (Some insn) =
     ap (λ ops. view_at x a word ops (execute (at_cycle x a) insn word len la)) (same_operands x a b insn)
     ∙ same_row x a b la lb word len (operands (at_cycle x b) insn) insn
 
+-- what was fetched has one view, and so has a fetch that failed
 same_after : (x : State) (a b la lb : ℕ) (f : Fetched)
     → view_of (after_fetch (at_cycle x a) a la f).event ≡ view_of (after_fetch (at_cycle x b) b lb f).event
 unfolding finished view_of

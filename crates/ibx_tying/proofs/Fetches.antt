@@ -48,6 +48,7 @@ no_fault_load s op rd addr next (Some at) b = refl
 no_fault_load s op rd addr next None (Some at) = refl
 no_fault_load s op rd addr next None None = tt
 
+-- a store that is refused or unanswered traps with a store's cause
 no_fault_store : (s : State) (size addr value next : ℕ) (a b : Option ℕ)
     → NoFault (store_with s size addr value next a b).done
 no_fault_store s size addr value next (Some at) b = refl
@@ -89,6 +90,7 @@ no_fault_csr s op rd src source addr word next (Some old) =
     (if not (csr_can_write s.csrs addr) then illegal s word else handed s op rd source addr next old) tt
     (no_fault_if (not (csr_can_write s.csrs addr)) (illegal s word) (handed s op rd source addr next old) refl tt)
 
+-- MRET returns or is illegal, and neither is a fault of its fetch
 no_fault_return : (s : State) (word : ℕ) → NoFault (return_from_trap s word).done
 unfolding return_from_trap
 no_fault_return s word = no_fault_if (not s.csrs.machine) (illegal s word) (returned s) refl tt
@@ -181,6 +183,7 @@ ended_parcels k c pc regs cycle word ops after (Traps cause tval addr) n = by_ca
     by_cause false e = refl
     by_cause true e = let no_ : true ≡ false = e in cc
 
+-- an event's view has the word that was executed, after a retirement and after a trap
 ended_word : (pc : ℕ) (regs : List ℕ) (cycle word : ℕ) (ops : Option (ℕ × ℕ)) (after : Executed) (d : Done)
     → word_for (stepped_by pc regs cycle word ops after d) ≡ word
 unfolding view_of
@@ -197,6 +200,7 @@ decoded_parcels k c s cycle word length lines (Some insn) =
     ended_parcels k c s.pc s.regs cycle word (operands s insn) (execute s insn word length lines)
     (execute s insn word length lines).done (no_fault s insn word length lines)
 
+-- the view has the word that was decoded, even if it is no instruction
 pub decoded_word : (s : State) (cycle word length lines : ℕ) (o : Option Insn)
     → word_for (decoded s cycle word length lines o) ≡ word
 unfolding finished
@@ -221,6 +225,7 @@ after_parcels k c s cycle lines (Unsound addr) = refl
 after_parcels k c s cycle lines (Instruction word size) =
     decoded_parcels k c s cycle word size lines (instruction_of word)
 
+-- the view has the word that was fetched, and 0 after a fetch that failed
 pub after_word : (s : State) (cycle lines : ℕ) (f : Fetched) → word_for (after_fetch s cycle lines f) ≡ fetched_word f
 unfolding finished view_of
 after_word s cycle lines (Unsound addr) = refl

@@ -25,6 +25,7 @@ named_if : (b : Bool) (o : Option Insn) → IfSome o IsNamed → IfSome (if b th
 named_if true o n = n
 named_if false o n = tt
 
+-- a row in the stage was decoded from its word, so its sources are registers
 pub named_row : (id : IdState) → IfSome (row_of id) IsNamed
 named_row id =
     named_if (id.valid && nat_lt id.kind 2 && id.fault == 0) (instruction_of (stage_word id)) (named (stage_word id))
@@ -36,6 +37,7 @@ read1_low true (Some insn) n = n.1
 read1_low false None n = omega arith
 read1_low false (Some insn) n = omega arith
 
+-- the second source is below 32 too, and x0 where none is read
 pub read2_low : (b : Bool) (o : Option Insn) → IfSome o IsNamed → read_by source2 b o < 32
 read2_low true None n = omega arith
 read2_low true (Some insn) n = n.2
@@ -51,6 +53,7 @@ coded xs n l a =
     ap (syndrome_of 32 7) (get_or-map (encode_of 32 7) xs n 0 0 l)
     ∙ syndrome_of-encode 32 7 (slice_index xs n) (All-get_or (λ v. v < 2 ^ 32) xs n 0 l a)
 
+-- so the check bits of each of the core's 32 registers fit its word
 coded_in : (regs xs : List ℕ) (n : ℕ) → regs ≡ map (encode_of 32 7) xs → n < 32 → length xs ≡ 32
     → All (λ v. v < 2 ^ 32) xs → syndrome_of 32 7 (slice_index regs n) ≡ 0
 coded_in regs xs n e l k a = ap (λ rs. syndrome_of 32 7 (slice_index rs n)) e ∙ coded xs n (omega (arith, k)) a

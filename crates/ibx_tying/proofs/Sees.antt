@@ -67,14 +67,17 @@ portion_most tval (Some addr) = by (tval == addr)
     by true = omega arith
     by false = omega arith
 
+-- without a trap the phase is 0, which is below 4 too
 phase_if : (b : Bool) (n : ℕ) → n ≤ 4 → (if b then n else 0) ≤ 4
 phase_if true n h = h
 phase_if false n h = omega arith
 
+-- so is the phase of a view, and it is 0 without one
 view_most : (o : Option View) → view_phase o ≤ 4
 view_most None = omega arith
 view_most (Some v) = phase_if (v.kind == 1) (portion_phase v.tval v.addr) (portion_most v.tval v.addr)
 
+-- so an item's trap is in phase 4 at most, whatever was admitted
 trap_most : (s : Setup) (t : ℕ) (h : Story) → trap_phase s t h ≤ 4
 unfolding trap_phase
 trap_most s t h = view_most (view_by s h (choice_at s t h))
@@ -120,6 +123,7 @@ decides s h c next_pc csrs regs t = record {
   ctl = t.ctl;
 }
 
+-- the core's fields fix timing just where the registers of the times do
 fixed_there : (s : Setup) (h : Story) (c next_pc : ℕ) (csrs : Csrs) (regs : List ℕ) → Tied s h c next_pc csrs regs
     → is_fixed csrs ≡ fixes h.times.ctl
 unfolding values counters_after
@@ -223,6 +227,7 @@ module _ (s : Setup) (t : ℕ) (h : Story) (c word size a b n : ℕ) (fixed : Bo
   md_there op p q true ops e = md_fixed op (operand2 ops) q s.mul
   md_there op p q false ops e = ap (λ o. md_cost_of op (operand2 o) false s.mul) e
 
+  -- so an M row has the state's operands, and costs what its item does
   md_operands : (op : MdOp) (rd rs1 rs2 : ℕ) → id.kind ≡ 0 → Reads (MulDiv op rd rs1 rs2) → Row (MulDiv op rd rs1 rs2)
       → Operands s t h (seen (MulDiv op rd rs1 rs2)) id op rs1 rs2
   unfolding view_of finished execute retired_item
@@ -269,11 +274,13 @@ item_there : (s : Setup) (t : ℕ) (h : Story) (kind : Kind) → kind_of s t h �
 unfolding item_at
 item_there s t h kind e = ap (λ k. item_by s h (choice_by s h k)) e
 
+-- the phase of an item's trap is that in the view of its choice
 phase_there : (s : Setup) (t : ℕ) (h : Story) (kind : Kind) → kind_of s t h ≡ kind
     → trap_phase s t h ≡ view_phase (view_by s h (choice_by s h kind))
 unfolding trap_phase
 phase_there s t h kind e = ap (λ k. view_phase (view_by s h (choice_by s h k))) e
 
+-- the access of an item is that of its choice
 access_there : (s : Setup) (t : ℕ) (h : Story) (kind : Kind) → kind_of s t h ≡ kind
     → access_at s t h ≡ access_from s h (choice_by s h kind)
 unfolding access_at
@@ -301,6 +308,7 @@ no_operands s t h v id e op rd rs1 rs2 k = absurd (none_row (sym e ∙ k))
     none_row : {x : Insn} → None ≡ Some x → ⊥
     none_row e = cc
 
+-- without a row the item traps: its fetch failed, or its word is illegal
 cause_none : (csrs : Csrs) (fault : ℕ) → is_some_cause (cause_of csrs fault None) ≡ true
 unfolding cause_of
 cause_none csrs fault = by (not (fault == 0))
@@ -326,6 +334,7 @@ same_insn x y e = cc
 real_there : (id : IdState) → id.valid ≡ true → id.kind ≡ 0 → is_real id ≡ true
 real_there id v k = ap₂ (λ b n. b && n == 0) v k
 
+-- an item of kind 0 is no dummy, whose timing is always fixed
 fixed_real : (id : IdState) (b : Bool) → id.kind ≡ 0 → (id.kind == 1 || b) ≡ b
 fixed_real id b k = ap (λ n. n == 1 || b) k
 
@@ -368,6 +377,7 @@ module _ (s : Setup) (limit t : ℕ) (h : Story) (c next_pc : ℕ) (id : IdState
   abbrev first_grant : ℕ
   first_grant = (past (settings_of s) h.times.stream (suc (length h.times.stream.enters))).grant
 
+  -- a fetched word is all in the stage, and a fault of the fetch isn't 0
   held_there : (f : Fetched) → fetched s h ≡ f → IsHeld h.state.pc f
   held_there f e =
       subst (λ x. IsHeld h.state.pc x)
@@ -402,6 +412,7 @@ module _ (s : Setup) (limit t : ℕ) (h : Story) (c next_pc : ℕ) (id : IdState
         way_of s t h c word size ea eb n fix id csrs sound ti.values_are ti.ctl st.ram dec fixes_ insn reads r,
       )
 
+  -- a word that is no instruction is seen as a trap, and any other by its row
   word_sees : (word size : ℕ) → kind_of s t h ≡ AnInstruction → fetched s h ≡ Instruction word size → (o : Option Insn)
       → instruction_of word ≡ o → id.kind ≡ 0 → id.fault ≡ 0 → row_of id ≡ o
       → view_with s h (brought_parcels s h)
@@ -423,6 +434,7 @@ module _ (s : Setup) (limit t : ℕ) (h : Story) (c next_pc : ℕ) (id : IdState
             (ap (λ (x : View). x.word) v ∙ view_word s h word size (Some insn) d) ∙ ap (access_of h.state) d;
       })
 
+  -- a fetch that failed is seen as a trap, and a fetched word by what it decodes to
   fetched_sees : kind_of s t h ≡ AnInstruction → (f : Fetched) → fetched s h ≡ f
       → Sees s t h c id (eyes_in s c id csrs regs)
   unfolding finished view_of
@@ -481,6 +493,7 @@ module _ (s : Setup) (limit t : ℕ) (h : Story) (c next_pc : ℕ) (id : IdState
         }),
       )
 
+  -- a dummy is seen by the row of its word, with fixed timing and so with its kind's cost
   dummy_sees : kind_of s t h ≡ ADummy → Sees s t h c id (eyes_in s c id csrs regs)
   unfolding dummy_item
   dummy_sees k =
@@ -522,6 +535,7 @@ module _ (s : Setup) (limit t : ℕ) (h : Story) (c next_pc : ℕ) (id : IdState
         }),
       )
 
+  -- so the stage sees the item, whichever of the three was admitted
   sees_by : (kind : Kind) → kind_of s t h ≡ kind → Sees s t h c id (eyes_in s c id csrs regs)
   sees_by (AnInterrupt number) k = interrupt_sees number k
   sees_by ADummy k = dummy_sees k

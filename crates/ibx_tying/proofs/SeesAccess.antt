@@ -65,6 +65,7 @@ phase_if b = if b then 2 else 3
 phase_same : (b : Bool) → b ≡ true → phase_if b ≡ 2
 phase_same b e = rw e refl
 
+-- a second portion, at another address than the access, traps in phase 3
 phase_other : (b : Bool) → b ≡ false → phase_if b ≡ 3
 phase_other b e = rw e refl
 
@@ -75,6 +76,7 @@ refuses_first s t h c v w hs r2 u1 u2 x =
     refused w false x.kind x.seen x.refusal x.no_trap x.portions x.comes.1 x.wakes
     (x.comes.0 ∙ phase_same (w.addr == w.addr) x.same)
 
+-- a second portion that alone is refused ends the access, before the first is issued
 refuses_second : (s : Setup) (t : ℕ) (h : Story) (c : ℕ) (v : Eyes) (w : Access) (u1 u2 : Bool)
     → Tests s t h v w false true true u1 u2 → Way s t h c v
 refuses_second s t h c v w u1 u2 x =

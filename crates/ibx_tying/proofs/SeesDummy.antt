@@ -25,6 +25,7 @@ word_by f r1 r2 = f + r2 * 2 ^ 20 + r1 * 2 ^ 15 + 0x33
 seven : (w n : ℕ) → w % 128 ≡ n → bit_and w 127 ≡ n
 seven w n e = low_bits w 7 (omega arith) ∙ e
 
+-- the low three bits are the rest by 8, as funct3 is read
 three : (w n : ℕ) → w % 8 ≡ n → bit_and w 7 ≡ n
 three w n e = low_bits w 3 (omega arith) ∙ e
 
@@ -43,6 +44,7 @@ add_row r1 r2 a b =
     let f7 : w / 33554432 ≡ 0 = omega (arith, a, b) in
     op_rows w (omega (arith, a, b)) (seven w 51 (omega (arith, a, b))) ∙ rw (f3, f7) refl
 
+-- a dummy of kind 1 is a MUL
 mul_row : (r1 r2 : ℕ) → r1 < 32 → r2 < 32
     → decode_of (word_by (2 ^ 25) r1 r2)
     ≡ Some (MulDiv Mul (rd (word_by (2 ^ 25) r1 r2)) (rs1 (word_by (2 ^ 25) r1 r2)) (rs2 (word_by (2 ^ 25) r1 r2)))
@@ -52,6 +54,7 @@ mul_row r1 r2 a b =
     let f7 : w / 33554432 ≡ 1 = omega (arith, a, b) in
     op_rows w (omega (arith, a, b)) (seven w 51 (omega (arith, a, b))) ∙ rw (f3, f7) refl
 
+-- a dummy of kind 2 is a DIV
 div_row : (r1 r2 : ℕ) → r1 < 32 → r2 < 32
     → decode_of (word_by (2 ^ 25 + 4 * 2 ^ 12) r1 r2)
     ≡ Some (MulDiv Div (rd (word_by (2 ^ 25 + 4 * 2 ^ 12) r1 r2)) (rs1 (word_by (2 ^ 25 + 4 * 2 ^ 12) r1 r2))
@@ -62,6 +65,7 @@ div_row r1 r2 a b =
     let f7 : w / 33554432 ≡ 1 = omega (arith, a, b) in
     op_rows w (omega (arith, a, b)) (seven w 51 (omega (arith, a, b))) ∙ rw (f3, f7) refl
 
+-- a dummy of kind 3 is an AND
 and_row : (r1 r2 : ℕ) → r1 < 32 → r2 < 32
     → decode_of (word_by (7 * 2 ^ 12) r1 r2)
     ≡ Some (Alu And (rd (word_by (7 * 2 ^ 12) r1 r2)) (rs1 (word_by (7 * 2 ^ 12) r1 r2))
@@ -88,6 +92,7 @@ cost_in (suc (suc (suc zero))) r1 r2 b mul l p q =
     ap (λ o. cost_by o b true mul) (long_op (word_by (7 * 2 ^ 12) r1 r2) (omega arith) ∙ and_row r1 r2 p q)
 cost_in (suc (suc (suc (suc k)))) r1 r2 b mul l p q = absurd (omega (arith, l))
 
+-- so whatever the LFSR is, its dummy costs by its kind alone, not by its operand
 pub dummy_costs : (lfsr b : ℕ) (mul : MulKind)
     → cost_by (instruction_of (dummy_word lfsr)) b true mul ≡ dummy_cost mul (dummy_kind lfsr)
 unfolding dummy_word
@@ -102,6 +107,7 @@ long_in (suc (suc zero)) r1 r2 l = eq-eqb (word_by (2 ^ 25 + 4 * 2 ^ 12) r1 r2 %
 long_in (suc (suc (suc zero))) r1 r2 l = eq-eqb (word_by (7 * 2 ^ 12) r1 r2 % 4) 3 (omega arith)
 long_in (suc (suc (suc (suc k)))) r1 r2 l = absurd (omega (arith, l))
 
+-- so every dummy is a word of 32 bits, whatever the LFSR is
 pub dummy_long : (lfsr : ℕ) → is_long (dummy_word lfsr) ≡ true
 unfolding dummy_word
 dummy_long lfsr = long_in (dummy_kind lfsr) (lfsr / 2 ^ 5 % 32) (lfsr / 2 ^ 10 % 32) (omega arith)
@@ -113,6 +119,7 @@ few_by mul true b = md_few Mul 0 true mul
 few_by mul false true = md_few Div 0 true mul
 few_by mul false false = omega arith
 
+-- so a dummy of any kind costs 63 at most, all that the stage can count
 pub dummy_few : (mul : MulKind) (k : ℕ) → dummy_cost mul k ≤ 63
 unfolding dummy_cost
 dummy_few mul k = few_by mul (k == 1) (k == 2)

@@ -73,6 +73,7 @@ load_made s t h op rd rs1 imm word addr next ops None None r =
       wakes = ap (λ (x : Item). x.sleeps) i;
     }
 
+-- a store's item ends at the portion that fails, or after all, with the portions of its address
 store_made : (s : Setup) (t : ℕ) (h : Story) (size rs1 rs2 imm word addr value next : ℕ) (ops : Option (ℕ × ℕ))
     (o1 o2 : Option ℕ)
     → IsRow s t h (Store size rs1 rs2 imm) word ops (store_with (state_there h) size addr value next o1 o2)
@@ -110,6 +111,7 @@ phase_few : (n : ℕ) (b : Bool) → n ≡ (if b then 2 else 3) → n ≢ 4
 phase_few n true e z = absurd (omega (arith, e, z))
 phase_few n false e z = absurd (omega (arith, e, z))
 
+-- an access never traps in phase 4: it has no trap, or a portion's
 comes_few : (s : Setup) (t : ℕ) (h : Story) (addr : ℕ) (o : Option ℕ) → Comes s t h addr o → trap_phase s t h ≢ 4
 comes_few s t h addr None x z = absurd (omega (arith, x.0, z))
 comes_few s t h addr (Some at) x z = phase_few (trap_phase s t h) (at == addr) x.0 z
@@ -122,6 +124,7 @@ refused_is : (x : State) (addr size : ℕ) (kind : AccessKind)
 unfolding refused_at
 refused_is x addr size kind = refl
 
+-- the address that isn't answered is that of the first portion that the setup leaves unmapped
 error_is : (s : Setup) (m : Memory) (addr size : ℕ) → m.ram ≡ s.image.ram
     → error_at m.ram addr size ≡ denied_at (is_unmapped s (portion_addr addr false)) (has_second addr size)
     (is_unmapped s (portion_addr addr true)) addr (portion_addr addr true)
@@ -150,6 +153,7 @@ module _ (s : Setup) (t : ℕ) (h : Story) (c word length a b n : ℕ) (fixed : 
       ap₂ (λ u v. if u then 1 else if has_second w.addr w.size && v then 2 else 0)
       (denied_is s h csrs n w kind false tied k) (denied_is s h csrs n w kind true tied k)
 
+  -- the portions at an address are told by the tests of the state, since times have its registers
   portions_are : (addr size : ℕ) (kind : AccessKind)
       → portions_at (settings_of s) h.times.ctl addr size kind
       ≡ portions_by (is_refused (state_there h).csrs addr size kind false
@@ -190,6 +194,7 @@ module _ (s : Setup) (t : ℕ) (h : Story) (c word length a b n : ℕ) (fixed : 
         comes = m.comes;
       })
 
+  -- a load needs only its base register, to see the address of its access
   pub load_way : (op : LoadOp) (rd rs1 imm : ℕ) (ops : Option (ℕ × ℕ)) → (trap_phase s t h ≢ 4 → a ≡ reg h.state rs1)
       → IsRow s t h (Load op rd rs1 imm) word ops (done_there (Load op rd rs1 imm))
       → Way s t h c (seen (Load op rd rs1 imm))
@@ -215,6 +220,7 @@ module _ (s : Setup) (t : ℕ) (h : Story) (c word length a b n : ℕ) (fixed : 
       (operand (comes_few s t h addr (first_some o1 o2) m.comes)))
       r.access refl refl refl (omega arith) m
 
+  -- a store needs its second register too, for the value of its access
   pub store_way : (size rs1 rs2 imm : ℕ) (ops : Option (ℕ × ℕ))
       → (trap_phase s t h ≢ 4 → (a ≡ reg h.state rs1) × (b ≡ reg h.state rs2))
       → IsRow s t h (Store size rs1 rs2 imm) word ops (done_there (Store size rs1 rs2 imm))

@@ -55,9 +55,11 @@ pub record IsItem (i : Item) (cost : ℕ) (redirects : Bool) : Type 0 where
 pub first_of_three : {A : Type 0} (n : ℕ) (x y z : A) → n ≡ 2 → (if n == 2 then x else if n == 1 then y else z) ≡ x
 first_of_three n x y z e = rw e refl
 
+-- number 1 takes the second, as the view of a trap does
 pub second_of_three : {A : Type 0} (n : ℕ) (x y z : A) → n ≡ 1 → (if n == 2 then x else if n == 1 then y else z) ≡ y
 second_of_three n x y z e = rw e refl
 
+-- number 0 takes the third, as the view of a retirement does
 pub third_of_three : {A : Type 0} (n : ℕ) (x y z : A) → n ≡ 0 → (if n == 2 then x else if n == 1 then y else z) ≡ z
 third_of_three n x y z e = rw e refl
 
@@ -100,6 +102,7 @@ trap_portions k c v e n =
 pub by_kind : (n x : ℕ) → n ≡ 1 → (if n == 1 then x else 0) ≡ x
 by_kind n x e = rw e refl
 
+-- a number counts for kind 1 alone, and kind 0 leaves 0
 no_phase : (n x : ℕ) → n ≡ 0 → (if n == 1 then x else 0) ≡ 0
 no_phase n x e = rw e refl
 
@@ -110,6 +113,7 @@ trap_view_phase v e n = by_kind v.kind _ e ∙ portion v.tval v.addr n
     portion : (tval : ℕ) (o : Option ℕ) → o ≡ None → Rattle.ibx_joining.proofs.Stages.portion_phase tval o ≡ 4
     portion tval o e = subst (λ x. Rattle.ibx_joining.proofs.Stages.portion_phase tval x ≡ 4) (sym e) refl
 
+-- a view of kind 0 is in no phase of a trap
 pub retired_phase : (v : View) → v.kind ≡ 0 → view_phase (Some v) ≡ 0
 retired_phase v e = no_phase v.kind _ e
 
@@ -208,11 +212,13 @@ unfolding branch_cost
 branch_few true = omega arith
 branch_few false = omega arith
 
+-- its item has this cost, redirects where it turns, and has no portion
 branch_item : (d : Bool) (n : ℕ) → IsItem (branching d (plain n)) (branch_cost d) d
 unfolding branch_cost
 branch_item true n = record { portions = refl; cost_is = refl; sleeps = refl; redirects_is = refl }
 branch_item false n = record { portions = refl; cost_is = refl; sleeps = refl; redirects_is = refl }
 
+-- the stage holds a branch that turns for this cost, and ends any other at once
 branch_turn : (d : Bool) (id : IdState) → branches d id ≡ ends_at (branch_cost d) d id
 unfolding branch_cost
 branch_turn true id = refl
@@ -225,11 +231,13 @@ low_few Fast b fixed = omega arith
 low_few Slow b true = omega arith
 low_few Slow b false = omega arith
 
+-- a product's high half costs 63 at most with each multiplier
 high_few : (mul : MulKind) → high_cost mul ≤ 63
 high_few Single = omega arith
 high_few Fast = omega arith
 high_few Slow = omega arith
 
+-- a division costs 63 at most, by 0 and with fixed timing too
 division_few : (b : ℕ) (fixed : Bool) → division_cost b fixed ≤ 63
 division_few b true = omega arith
 division_few b false = by_test (b == 0)
@@ -238,6 +246,7 @@ division_few b false = by_test (b == 0)
     by_test true = omega arith
     by_test false = omega arith
 
+-- so each row of the M extension costs no more than the stage can count
 pub md_few : (op : MdOp) (b : ℕ) (fixed : Bool) (mul : MulKind) → md_cost_of op b fixed mul ≤ 63
 unfolding md_cost_of
 md_few Mul b fixed mul = low_few mul b fixed
@@ -297,6 +306,7 @@ module _ (s : Setup) (t : ℕ) (h : Story) (c word length a b : ℕ) (fixed : Bo
       (record { portions = refl; cost_is = refl; sleeps = refl; redirects_is = refl }) (omega arith) refl refl
       (cause_there (Lui rd imm) None refl) (λ id ends fault. refl)
 
+  -- AUIPC retires at once
   pub auipc_way : (rd imm : ℕ) (ops : Option (ℕ × ℕ)) → IsRow s t h (Auipc rd imm) word ops (done_there (Auipc rd imm))
       → Way s t h c (seen (Auipc rd imm))
   unfolding view_of finished execute retired_item worked cause_of
@@ -306,6 +316,7 @@ module _ (s : Setup) (t : ℕ) (h : Story) (c word length a b : ℕ) (fixed : Bo
       (record { portions = refl; cost_is = refl; sleeps = refl; redirects_is = refl }) (omega arith) refl refl
       (cause_there (Auipc rd imm) None refl) (λ id ends fault. refl)
 
+  -- a computation with an immediate retires at once
   pub alu_imm_way : (op : AluOp) (rd rs1 imm : ℕ) (ops : Option (ℕ × ℕ))
       → IsRow s t h (AluImm op rd rs1 imm) word ops (done_there (AluImm op rd rs1 imm))
       → Way s t h c (seen (AluImm op rd rs1 imm))
@@ -316,6 +327,7 @@ module _ (s : Setup) (t : ℕ) (h : Story) (c word length a b : ℕ) (fixed : Bo
       (record { portions = refl; cost_is = refl; sleeps = refl; redirects_is = refl }) (omega arith) refl refl
       (cause_there (AluImm op rd rs1 imm) None refl) (λ id ends fault. refl)
 
+  -- so does one on two registers
   pub alu_way : (op : AluOp) (rd rs1 rs2 : ℕ) (ops : Option (ℕ × ℕ))
       → IsRow s t h (Alu op rd rs1 rs2) word ops (done_there (Alu op rd rs1 rs2))
       → Way s t h c (seen (Alu op rd rs1 rs2))
@@ -326,6 +338,7 @@ module _ (s : Setup) (t : ℕ) (h : Story) (c word length a b : ℕ) (fixed : Bo
       (record { portions = refl; cost_is = refl; sleeps = refl; redirects_is = refl }) (omega arith) refl refl
       (cause_there (Alu op rd rs1 rs2) None refl) (λ id ends fault. refl)
 
+  -- FENCE retires at once, and doesn't redirect
   pub fence_way : (ops : Option (ℕ × ℕ)) → IsRow s t h Fence word ops (done_there Fence) → Way s t h c (seen Fence)
   unfolding view_of finished execute retired_item worked cause_of
   fence_way ops r =
@@ -333,6 +346,7 @@ module _ (s : Setup) (t : ℕ) (h : Story) (c word length a b : ℕ) (fixed : Bo
       (record { portions = refl; cost_is = refl; sleeps = refl; redirects_is = refl }) (omega arith) refl refl
       (cause_there Fence None refl) (λ id ends fault. refl)
 
+  -- FENCE.I retires at once and redirects, so that what follows is fetched anew
   pub fence_i_way : (ops : Option (ℕ × ℕ)) → IsRow s t h FenceI word ops (done_there FenceI)
       → Way s t h c (seen FenceI)
   unfolding view_of finished execute retired_item worked cause_of
@@ -341,6 +355,7 @@ module _ (s : Setup) (t : ℕ) (h : Story) (c word length a b : ℕ) (fixed : Bo
       (record { portions = refl; cost_is = refl; sleeps = refl; redirects_is = refl }) (omega arith) refl refl
       (cause_there FenceI None refl) (λ id ends fault. sym (at_once id.count (Retire true) (Hold (held 1 id))))
 
+  -- JAL retires at once and redirects
   pub jal_way : (rd imm : ℕ) (ops : Option (ℕ × ℕ)) → IsRow s t h (Jal rd imm) word ops (done_there (Jal rd imm))
       → Way s t h c (seen (Jal rd imm))
   unfolding view_of finished execute retired_item worked cause_of
@@ -349,6 +364,7 @@ module _ (s : Setup) (t : ℕ) (h : Story) (c word length a b : ℕ) (fixed : Bo
       (record { portions = refl; cost_is = refl; sleeps = refl; redirects_is = refl }) (omega arith) refl refl
       (cause_there (Jal rd imm) None refl) (λ id ends fault. sym (at_once id.count (Retire true) (Hold (held 1 id))))
 
+  -- JALR does as JAL, wherever its register leads
   pub jalr_way : (rd rs1 imm : ℕ) (ops : Option (ℕ × ℕ))
       → IsRow s t h (Jalr rd rs1 imm) word ops (done_there (Jalr rd rs1 imm)) → Way s t h c (seen (Jalr rd rs1 imm))
   unfolding view_of finished execute retired_item worked cause_of
@@ -359,6 +375,7 @@ module _ (s : Setup) (t : ℕ) (h : Story) (c word length a b : ℕ) (fixed : Bo
       (cause_there (Jalr rd rs1 imm) None refl)
       (λ id ends fault. sym (at_once id.count (Retire true) (Hold (held 1 id))))
 
+  -- a branch that turns, or has fixed timing, takes a cycle more and redirects; any other retires at once
   pub branch_way : (op : BranchOp) (rs1 rs2 imm : ℕ) (ops : Option (ℕ × ℕ))
       → (trap_phase s t h ≡ 0 → SeesOps h ops a b fixed)
       → IsRow s t h (Branch op rs1 rs2 imm) word ops (done_there (Branch op rs1 rs2 imm))
@@ -376,6 +393,7 @@ module _ (s : Setup) (t : ℕ) (h : Story) (c word length a b : ℕ) (fixed : Bo
       refl
       (cause_there insn None refl) (λ id ends fault. branch_turn d id)
 
+  -- a product or quotient retires after its cost, which the stage knows by its second operand
   pub md_way : (op : MdOp) (rd rs1 rs2 : ℕ) (ops : Option (ℕ × ℕ)) → (trap_phase s t h ≡ 0 → SeesOps h ops a b fixed)
       → IsRow s t h (MulDiv op rd rs1 rs2) word ops (done_there (MulDiv op rd rs1 rs2))
       → Way s t h c (seen (MulDiv op rd rs1 rs2))
@@ -391,6 +409,7 @@ module _ (s : Setup) (t : ℕ) (h : Story) (c word length a b : ℕ) (fixed : Bo
 
   -- ---- rows that always trap
 
+  -- ECALL traps in each mode, without an address
   pub ecall_way : (ops : Option (ℕ × ℕ)) → Fields h csrs → IsRow s t h Ecall word ops (done_there Ecall)
       → Way s t h c (seen Ecall)
   unfolding view_of finished execute cause_of counters_after
@@ -408,6 +427,7 @@ module _ (s : Setup) (t : ℕ) (h : Story) (c word length a b : ℕ) (fixed : Bo
           r.kind r.item r.phase refl (no_addr m) refl refl
           (ap is_some_cause (cause_there Ecall (Some (if csrs.priv_ then 11 else 8)) refl))
 
+  -- EBREAK traps, without an address
   pub ebreak_way : (ops : Option (ℕ × ℕ)) → IsRow s t h Ebreak word ops (done_there Ebreak) → Way s t h c (seen Ebreak)
   unfolding view_of finished execute cause_of
   ebreak_way ops r =
@@ -431,6 +451,7 @@ module _ (s : Setup) (t : ℕ) (h : Story) (c word length a b : ℕ) (fixed : Bo
       traps_with s t h c (seen Mret) (view_done h word ops (illegal (state_there h) word)) r.kind r.item r.phase refl
       refl refl refl (ap is_some_cause e)
 
+  -- so MRET takes a cycle more and redirects in M mode, and traps in U mode
   pub mret_way : (ops : Option (ℕ × ℕ)) → Fields h csrs → IsRow s t h Mret word ops (done_there Mret)
       → Way s t h c (seen Mret)
   unfolding view_of finished execute cause_of counters_after return_from_trap
@@ -455,6 +476,7 @@ module _ (s : Setup) (t : ℕ) (h : Story) (c word length a b : ℕ) (fixed : Bo
       traps_with s t h c (seen Wfi) (view_done h word ops (illegal (state_there h) word)) r.kind r.item r.phase refl
       refl refl refl (ap is_some_cause e)
 
+  -- so WFI sleeps where it may, until a line that mie enables wakes it, and else traps
   pub wfi_way : (ops : Option (ℕ × ℕ)) → Fields h csrs → lines ≡ lines_in (settings_of s) c
       → IsRow s t h Wfi word ops (done_there Wfi) → Way s t h c (seen Wfi)
   unfolding view_of finished execute cause_of counters_after
@@ -505,11 +527,13 @@ module _ (s : Setup) (t : ℕ) (h : Story) (c word length a b : ℕ) (fixed : Bo
       (λ v n. record { portions = refl; cost_is = refl; sleeps = refl; redirects_is = refl }) refl refl
       (λ id ends fault. refl) e r
 
+  -- there is a register to read or not, whatever its value and the interrupt lines
   lacks_by : (v u : CsrValues) (l m : ℕ) (o : Option CsrName)
       → lacks_value (value_at v l o) ≡ lacks_value (value_at u m o)
   lacks_by v u l m None = refl
   lacks_by v u l m (Some r) = refl
 
+  -- the core's fields find a CSR instruction illegal just where it can't read or may not write
   csr_trap : (op : CsrOp) (rd src addr l : ℕ) (imm : Bool) → Fields h csrs
       → (seen (Csr op rd src imm addr)).trap
       ≡ (if lacks_value (csr_read (state_there h).csrs addr l)
@@ -526,6 +550,7 @@ module _ (s : Setup) (t : ℕ) (h : Story) (c word length a b : ℕ) (fixed : Bo
       ∙ ap (λ b. ends b (is_there (writable m addr)))
       (lacks_by (values csrs) (state_there h).csrs 0 l (readable m addr))
 
+  -- so a CSR instruction retires at once or is illegal, with an immediate or a register
   pub csr_way : (op : CsrOp) (rd src : ℕ) (imm : Bool) (addr : ℕ) (ops : Option (ℕ × ℕ)) → Fields h csrs
       → IsRow s t h (Csr op rd src imm addr) word ops (done_there (Csr op rd src imm addr))
       → Way s t h c (seen (Csr op rd src imm addr))

@@ -29,6 +29,7 @@ pair_low : (f : ℕ → ℕ) → f 0 < 256 → f 1 < 256 → bytes_number f 2 < 
 unfolding bytes_number
 pair_low f a b = omega (arith, a, b)
 
+-- a byte that is read is below 256, since it is 0 outside RAM
 byte_low : (m : Memory) (a : ℕ) → ((x : ℕ) → m.byte x < 256) → read_byte m a < 256
 byte_low m a h = by (ram_has m.ram a) (m.byte a) (h a)
   where
@@ -36,6 +37,7 @@ byte_low m a h = by (ram_has m.ram a) (m.byte a) (h a)
     by true v l = l
     by false v l = omega arith
 
+-- so a parcel that memory gives is a halfword
 pub parcel_low : (m : Memory) (addr : ℕ) → ((x : ℕ) → m.byte x < 256) → read_bytes m addr 2 < 2 ^ 16
 parcel_low m addr h = pair_low (λ k. read_byte m ((addr + k) % 2 ^ 32)) (byte_low m ((addr + 0) % 2 ^ 32) h)
     (byte_low m ((addr + 1) % 2 ^ 32) h)
@@ -60,6 +62,7 @@ fault_some false = refl
 short_word : (word : ℕ) → is_long word ≡ false → word < 2 ^ 16 → in_stage word ≡ word
 short_word word e l = ap (λ b. if b then word else word % 2 ^ 16) e ∙ mod-eq_of_lt l
 
+-- a word is long just where its first parcel is, whatever the second is
 long_pair : (first second : ℕ) → is_long (first + 2 ^ 16 * second) ≡ is_long first
 long_pair first second = ap (λ n. n == 3) (let e : (first + 2 ^ 16 * second) % 4 ≡ first % 4 = omega arith in e)
 
@@ -86,6 +89,7 @@ row_if : (valid kind fault : Bool) (o : Option Insn) → valid ≡ true → kind
     → (if valid && kind && fault then o else None) ≡ (if b then o else None)
 row_if valid kind fault o e k b m = rw (e, k, m) refl
 
+-- an item of kind 0 may have a row, as any below 2
 kind_low : (n : ℕ) → n ≡ 0 → nat_lt n 2 ≡ true
 kind_low n e = lt-ltb n 2 (omega (arith, e))
 
@@ -97,6 +101,7 @@ row_is pc word size id g f =
     (kind_low id.kind f.kind) true (ap (λ n. n == 0) f.fault)
     ∙ ap instruction_of (ap in_stage f.word ∙ g)
 
+-- after a fetch that failed the stage has no row
 pub no_row : (pc addr : ℕ) (id : IdState) → IsHeld pc (Unsound addr) → Fields (Unsound addr) pc id → row_of id ≡ None
 no_row pc addr id g f =
     row_if id.valid (nat_lt id.kind 2) (id.fault == 0) (instruction_of (stage_word id)) f.valid
@@ -117,6 +122,7 @@ payload_in regs xs n e l k a =
     ∙ ap (payload_of 32) (get_or-map (encode_of 32 7) xs n 0 0 inside)
     ∙ payload_of-encode 32 7 (slice_index xs n) (All-get_or (λ v. v < 2 ^ 32) xs n 0 inside a)
 
+-- so a codeword that is read, without its check bits, is the state's register, x0 too
 pub operand : (x : State) (regs : List ℕ) (n : ℕ) → regs ≡ map (encode_of 32 7) x.regs → n < 32 → length x.regs ≡ 32
     → All (λ v. v < 2 ^ 32) x.regs → slice_index x.regs 0 ≡ 0 → payload_of 32 (slice_index regs n) ≡ reg x n
 operand x regs n e l k a z = payload_in regs x.regs n e l k a ∙ reg_is x n z
