@@ -49,6 +49,7 @@ option_same agree same (Some x) (Some y) h = ap Some (same x y h)
 number_self : (x : ℕ) → (x == x) ≡ true
 number_self x = eq-eqb x x refl
 
+-- two operands agree with themselves, since each of both numbers does
 operands_self : (x : ℕ × ℕ) → agree_operands x x ≡ true
 operands_self x = together (number_self x.0) (number_self x.1)
 
@@ -318,6 +319,7 @@ no_view : (o : Option Event) → option_map view_of o ≡ None → o ≡ None
 no_view None h = refl
 no_view (Some e) h = cc
 
+-- a view that is shown is the view of an event
 an_event : (o : Option Event) (v : View) → option_map view_of o ≡ Some v → (e : Event) × (o ≡ Some e)
 an_event None v h = cc
 an_event (Some e) v h = (e, refl)
@@ -416,6 +418,7 @@ module _ {cycles : ℕ} {a b : Whole State} {events left_a left_b less_a less_b 
               ∙ go_by events view (views_of less_a next_x) (views_of less_b next_y);
         }
 
+    -- where both show the same view, the comparison goes on with one event more
     pub goes_on : (u v : Option View) → AreAlike cycles a b events left_a left_b x y → Shows left_a x u less_a next_x →
         Shows left_b y v less_b next_y
         → u ≡ v → IsSome u → AreAlike cycles a b (events + 1) less_a less_b next_x next_y

@@ -31,7 +31,7 @@ module _ (bad : ℕ → Bool) where
   put_good true words i word good all = All-set (λ w. bad w ≡ false) words i word (good refl) all
   put_good false words i word good all = all
 
-  -- a word past the end is read as 0
+  -- a word that is read within the list is good, where all are
   pub inside_good : (words : List ℕ) (i : ℕ) → i < length words → Good bad words → bad (slice_index words i) ≡ false
   inside_good words i inside all = All-get_or (λ w. bad w ≡ false) words i 0 inside all
 
@@ -206,7 +206,9 @@ module _ {S : Type 0} (p : Parts S) (laws : CoreLaws p) where
 
   -- what a clean run keeps for the flip of a word
   pub record Ready (x : Site) (w : Whole S) : Type 0 where
+    -- every word round the cores is a codeword, and no flip is pending
     pub words : Codewords w.place
+    -- the word of the flip is there, and so is its bit
     pub inside : Fits x w.place
 
   -- a step keeps both

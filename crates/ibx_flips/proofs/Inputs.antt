@@ -11,13 +11,21 @@ use Rattle.ibx_flips.proofs.Apart.{WordApart}
 module _ (a b c d e f g h : Bool) where
   -- one of eight tests holds
   data OneOf : Type 0 where
+    -- it is the first of the eight
     first : a ≡ true → OneOf
+    -- it is the second
     second : b ≡ true → OneOf
+    -- it is the third
     third : c ≡ true → OneOf
+    -- it is the fourth
     fourth : d ≡ true → OneOf
+    -- it is the fifth
     fifth : e ≡ true → OneOf
+    -- it is the sixth
     sixth : f ≡ true → OneOf
+    -- it is the seventh
     seventh : g ≡ true → OneOf
+    -- it is the eighth, the last of the disjunction
     eighth : h ≡ true → OneOf
 
   -- then their disjunction does
@@ -58,23 +66,41 @@ module _ (a b c d e f g h : Bool) where
 module _ {S : Type 0} (p : Parts S) where
   -- two inputs with the same flags and grants, whose marked words are bad ones in the second
   pub record InApart (x : InMarks) (i j : In) : Type 0 where
+    -- both fetches have an answer in this cycle, or neither has
     pub irsp_valid : j.irsp_valid ≡ i.irsp_valid
+    -- a fetch fails in both or in neither
     pub irsp_err : j.irsp_err ≡ i.irsp_err
+    -- the fetched words are the same, or a bad one in the second where they are marked
     pub irsp_word : WordApart is_bad_word x.irsp i.irsp_word j.irsp_word
+    -- a marked fetched word comes with a valid answer, so that the core uses it
     pub irsp_live : x.irsp ≡ true → j.irsp_valid ≡ true
+    -- both data ports answer in this cycle, or neither does
     pub drsp_valid : j.drsp_valid ≡ i.drsp_valid
+    -- a load or a store fails in both or in neither
     pub drsp_err : j.drsp_err ≡ i.drsp_err
+    -- the loaded words are the same, or a bad one in the second where they are marked
     pub drsp_word : WordApart is_bad_word x.drsp i.drsp_word j.drsp_word
+    -- a marked loaded word comes with a valid answer too
     pub drsp_live : x.drsp ≡ true → j.drsp_valid ≡ true
+    -- the fetch is granted in both or in neither
     pub igrant : j.igrant ≡ i.igrant
+    -- so is the request of the data port
     pub dgrant : j.dgrant ≡ i.dgrant
+    -- the word of the first register that is read, the same or a marked bad one
     pub rega : WordApart is_bad_word x.rega i.rega j.rega
+    -- that of the second register
     pub regb : WordApart is_bad_word x.regb i.regb j.regb
+    -- the tag word of way 0, where a bad one is bad by the code of tags
     pub tag0 : WordApart is_bad_tag x.tag0 i.tag0 j.tag0
+    -- the tag word of way 1
     pub tag1 : WordApart is_bad_tag x.tag1 i.tag1 j.tag1
+    -- the data word of way 0, the same or a marked bad one
     pub data0 : WordApart is_bad_word x.data0 i.data0 j.data0
+    -- the data word of way 1
     pub data1 : WordApart is_bad_word x.data1 i.data1 j.data1
+    -- no flip reaches the interrupt lines
     pub lines : j.lines ≡ i.lines
+    -- nor the multiplier's kind
     pub mul : j.mul ≡ i.mul
 
   -- an unmarked word is the same, and a marked one is bad
@@ -113,13 +139,21 @@ module _ {S : Type 0} (p : Parts S) where
 
   -- which of the used words aren't the changed one
   record Unmarked (x : InMarks) (s : S) (i : In) : Type 0 where
+    -- the fetched word isn't the changed one, or doesn't come in this cycle
     irsp : x.irsp ≡ false
+    -- nor is the loaded word, where one comes
     drsp : x.drsp ≡ false
+    -- the first register's word is used in every cycle, and is unmarked
     rega : x.rega ≡ false
+    -- so is the second register's
     regb : x.regb ≡ false
+    -- the tag word of way 0 is unmarked where a line is looked up
     tag0 : (p.looks s && x.tag0) ≡ false
+    -- so is that of way 1
     tag1 : (p.looks s && x.tag1) ≡ false
+    -- the data word of way 0 is unmarked where its tag matches
     data0 : (takes0 p s i.tag0 && x.data0) ≡ false
+    -- that of way 1 is unmarked where its tag matches and that of way 0 doesn't
     data1 : (takes1 p s i.tag0 i.tag1 && x.data1) ≡ false
 
   -- no used word is marked, word by word
@@ -177,13 +211,21 @@ module _ {S : Type 0} (p : Parts S) where
 
   -- one of the used words is bad
   data Hears (s : S) (j : In) : Type 0 where
+    -- a fetch is answered, with a bad word
     irsp : (j.irsp_valid && is_bad_word j.irsp_word) ≡ true → Hears s j
+    -- the data port answers with a bad word
     drsp : (j.drsp_valid && is_bad_word j.drsp_word) ≡ true → Hears s j
+    -- the first register's word is bad, which is used in every cycle
     rega : is_bad_word j.rega ≡ true → Hears s j
+    -- the second register's word is bad
     regb : is_bad_word j.regb ≡ true → Hears s j
+    -- a line is looked up, and the tag word of way 0 is bad
     tag0 : (p.looks s && is_bad_tag j.tag0) ≡ true → Hears s j
+    -- the same of way 1
     tag1 : (p.looks s && is_bad_tag j.tag1) ≡ true → Hears s j
+    -- way 0 matches, and its data word is bad
     data0 : (takes0 p s j.tag0 && is_bad_word j.data0) ≡ true → Hears s j
+    -- way 1 alone matches, and its data word is bad
     data1 : (takes1 p s j.tag0 j.tag1 && is_bad_word j.data1) ≡ true → Hears s j
 
   -- then the core hears a bad word

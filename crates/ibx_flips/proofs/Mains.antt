@@ -56,8 +56,11 @@ module _ {S : Type 0} (p : Parts S) (laws : CoreLaws p) where
 
   -- by the age of the delayed pairs: the shadow becomes what main is when it has had the inputs that wait for it
   pub data InStep (w : Whole S) : Type 0 where
+    -- no input waits: main is the shadow
     none : w.age ≡ 0 → w.main ≡ w.shadow → InStep w
+    -- one input waits: main is the shadow after it
     one : w.age ≡ 1 → w.main ≡ p.leaves w.shadow w.newer.0 → InStep w
+    -- two inputs wait: main is the shadow after the older one and then the newer one
     two : w.age ≡ 2 → w.main ≡ p.leaves (p.leaves w.shadow w.older.0) w.newer.0 → InStep w
 
   -- a step keeps this
@@ -75,10 +78,15 @@ module _ {S : Type 0} (p : Parts S) (laws : CoreLaws p) where
 
   -- the second system has another main and other delayed outputs
   pub record Mains (w v : Whole S) : Type 0 where
+    -- the first system's shadow follows its main
     pub step : InStep w
+    -- the second system's main, which may be any core
     pub main : S
+    -- the output in the second system's older pair
     pub older : Out
+    -- the output in its newer pair
     pub newer : Out
+    -- all else is the first system's: the shadow, the inputs that wait, the age and the words
     pub is : v ≡ other_main w main older newer
 
   -- the system with main s, two cycles after main's place was taken
@@ -177,7 +185,9 @@ module _ {S : Type 0} (p : Parts S) (laws : CoreLaws p) where
 
   -- the same main with the same words round it
   pub record Sides (w v : Whole S) : Type 0 where
+    -- the mains are equal, whatever their shadows are
     pub main : w.main ≡ v.main
+    -- so are the words round them
     pub place : w.place ≡ v.place
 
   -- a step keeps the relation, and the bus is the same

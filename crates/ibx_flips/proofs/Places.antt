@@ -25,23 +25,38 @@ use Rattle.ibx_flips.proofs.Inputs.{InApart}
 module _ {S : Type 0} (p : Parts S) where
   -- the same port, but for the kept word
   pub record PortApart (copy : Bool) (a b : PortState) : Type 0 where
+    -- the kept word of the second port
     pub word : ℕ
+    -- it is that of the first port, or a bad one where it is a copy of the changed word
     pub apart : WordApart is_bad_word copy a.word word
+    -- all else of the port is the same
     pub is : b ≡ record a { word = word }
 
   -- the changed word of each memory, and its copies in the ports
   pub record Near (k : Spot) (m : Marks) (e f : Place) : Type 0 where
+    -- the multiplier's kind and the changes of the interrupt lines are the same
     pub settings : f.settings ≡ e.settings
+    -- the registers are the same, or the marked one holds a bad word
     pub registers : ListApart is_bad_word k.register m.register e.registers f.registers
+    -- the tag words are the same, or the marked one is bad by the code of tags
     pub tags : ListApart is_bad_tag k.tag m.tag e.tags f.tags
+    -- the cache's data words are the same, or the marked one is bad
     pub lines : ListApart is_bad_word k.line m.line e.lines f.lines
+    -- both memories begin at the same address
     pub base : f.memory.base ≡ e.memory.base
+    -- their words are the same, or the marked one is bad
     pub words : ListApart is_bad_word k.word m.stored e.memory.words f.memory.words
+    -- the instruction ports differ in a copy of the changed word at most
     pub iport : PortApart m.icopy e.iport f.iport
+    -- so do the data ports
     pub dport : PortApart m.dcopy e.dport f.dport
+    -- no output word is marked
     pub not_shown : m.shown ≡ false
+    -- no flip of an output word is pending in the first
     pub quiet : e.pending ≡ None
+    -- nor is one in the second
     pub still : f.pending ≡ None
+    -- both are in the same cycle
     pub cycle : f.cycle ≡ e.cycle
 
   -- ---- what is shown

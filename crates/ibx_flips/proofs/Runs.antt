@@ -137,7 +137,9 @@ module _ {S : Type 0} (p : Parts S) where
 
   -- the bus is the same in this cycle, and the relation holds after it
   pub record Goes (R : Whole S → Whole S → Type 0) (w v : Whole S) : Type 0 where
+    -- in this cycle the bus can't tell the two systems apart
     pub bus : same_bus (output_of p w) (output_of p v) ≡ true
+    -- a step of each leads to related systems again
     pub after : R (next p w) (next p v)
 
   -- a step keeps the relation with the bus the same, or an alert comes soon

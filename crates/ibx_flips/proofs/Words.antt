@@ -31,10 +31,15 @@ module _ {S : Type 0} (p : Parts S) (laws : CoreLaws p) where
 
   -- only the word handed to the core in this cycle is another one
   pub record Shown (k : Spot) (e f : Place) : Type 0 where
+    -- the bit that is changed when the word is handed over
     pub bit : ℕ
+    -- the word is one of the six that the memories hand to the core
     pub wire : k.wire < 6
+    -- it has such a bit: a tag word has 28, each other word 39
     pub fits : bit < (if (k.wire == 2) || (k.wire == 3) then 28 else 39)
+    -- all words of the first are codewords, so that the changed one is bad
     pub words : Codewords e
+    -- the second is the first with that flip pending
     pub is : f ≡ record e { pending = Some (k.wire, bit) }
 
   -- a word that is changed where b holds
@@ -124,7 +129,9 @@ module _ {S : Type 0} (p : Parts S) (laws : CoreLaws p) where
 
   -- one word is changed in the memories, the ports or what is shown next
   pub data Related (k : Spot) (m : Marks) (e f : Place) : Type 0 where
+    -- no flip is pending: the changed word and its copies are in the memories and the ports
     near : Near p k m e f → Related k m e f
+    -- the flip is pending: the changed word is shown in this cycle alone
     flipped : m ≡ shown_only → Shown k e f → Related k m e f
 
   -- the cores are shown inputs that differ in the marked words alone
@@ -204,12 +211,16 @@ module _ {S : Type 0} (p : Parts S) (laws : CoreLaws p) where
 
   -- the same main, and one changed word
   pub record Words (k : Spot) (m : Marks) (w v : Whole S) : Type 0 where
+    -- the mains are equal, since none has used the changed word
     pub main : w.main ≡ v.main
+    -- the words round them differ in the changed one and its copies alone
     pub related : Related k m w.place v.place
 
   -- the bus is the same, and the relation holds after the cycle
   pub record Unused (k : Spot) (m : Marks) (w v : Whole S) : Type 0 where
+    -- a word that isn't used isn't seen on the bus
     pub bus : same_bus (output_of p w) (output_of p v) ≡ true
+    -- after the cycle the same holds, with the marks that it leaves
     pub after : Words k (marks_next p k m w) (next p w) (next p v)
 
   -- with one main

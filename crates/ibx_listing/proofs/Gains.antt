@@ -12,10 +12,12 @@ pub record SoFar (before now : Option (List ℕ)) (rest whole : List ℕ) : Type
   pub taken : now ≡ with_more before gained
   pub text : gained ++ rest ≡ whole
 
+-- to take nothing more leaves what was taken
 pub none_more : (taken : Option (List ℕ)) → taken ≡ with_more taken []
 none_more None = refl
 none_more (Some bytes) = ap Some (sym (append-nil bytes))
 
+-- two pieces taken one after the other are one piece
 more_twice : (taken : Option (List ℕ)) (first second : List ℕ) → with_more (with_more taken first) second ≡ with_more
     taken (first ++ second)
 more_twice None first second = refl

@@ -45,6 +45,7 @@ four_bytes a b c d code h (suc (suc (suc (suc i)))) = lit< tt
 half_is : (a b : ℕ) (code : List ℕ) → first_half (a ∷ b ∷ code) ≡ a + b * 256
 half_is a b code = refl
 
+-- the first word is its four bytes, the lowest first
 word_is : (a b c d : ℕ) (code : List ℕ) → first_word (a ∷ b ∷ c ∷ d ∷ code) ≡ a + b * 256 + c * 65536 + d * 16777216
 word_is a b c d code = refl
 

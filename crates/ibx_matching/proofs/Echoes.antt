@@ -12,6 +12,7 @@ bit-same : (a : Bool) → beq a a ≡ true
 bit-same true = refl
 bit-same false = refl
 
+-- a wire of several bits agrees with itself too
 number-same : (a : ℕ) → (a == a) ≡ true
 number-same a = eq-eqb a a refl
 
@@ -23,8 +24,11 @@ same o = simp (bit-same, number-same)
 module _ {S : Type 0} (p : Parts S) (laws : CoreLaws p) where
   -- by the age of the delayed pairs: each has main's output for its input, and by both inputs the shadow becomes main
   pub data Echoes (w : Whole S) : Type 0 where
+    -- no pair waits, and main is the shadow
     none : w.age ≡ 0 → w.main ≡ w.shadow → Echoes w
+    -- one pair waits: the shadow gives its output for its input, and becomes main by it
     one : w.age ≡ 1 → w.newer.1 ≡ p.gives w.shadow w.newer.0 → w.main ≡ p.leaves w.shadow w.newer.0 → Echoes w
+    -- two pairs wait: the shadow gives their outputs one after the other, and becomes main by both inputs
     two : w.age ≡ 2 → w.older.1 ≡ p.gives w.shadow w.older.0
         → w.newer.1 ≡ p.gives (p.leaves w.shadow w.older.0) w.newer.0
         → w.main ≡ p.leaves (p.leaves w.shadow w.older.0) w.newer.0 → Echoes w
@@ -37,6 +41,7 @@ module _ {S : Type 0} (p : Parts S) (laws : CoreLaws p) where
   output_by : (w : Whole S) (s : S) → w.main ≡ s → output p w.place w.main ≡ p.gives s (input p w.place w.main)
   output_by w s m = given w.place w.main ∙ ap (λ (r : S). p.gives r (input p w.place w.main)) m
 
+  -- what a cycle leaves of main is what it leaves of that core
   leaves_by : (w : Whole S) (s : S) → w.main ≡ s
       → p.leaves w.main (input p w.place w.main) ≡ p.leaves s (input p w.place w.main)
   leaves_by w s m = ap (λ (r : S). p.leaves r (input p w.place w.main)) m

@@ -32,7 +32,7 @@ abbrev AreBytes : List LoadedBytes → Type 0
 AreBytes [] = Unit {0}
 AreBytes (x ∷ xs) = All (λ b. b < 256) x.bytes × AreBytes xs
 
--- past the end 0 is read
+-- what is read of a list of bytes is a byte: past the end 0 is read
 index_low : (bytes : List ℕ) (i : ℕ) → All (λ b. b < 256) bytes → slice_index bytes i < 256
 index_low bytes i all =
     elim (cases_lt i (length bytes)) [
@@ -125,6 +125,7 @@ lines_low changes cycle all = found_low cycle (reverse changes) (reversed_low ch
 
 -- ---- both
 
+-- a well-formed file in a range of RAM, with masks that are words, is a setup of a run
 pub placed : (file : List ℕ) (ram : Ram) (mul : MulKind) (plan : PlanValue) → IsRamRange ram → IsWellFormed file ram
     → All (λ b. b < 256) file → AreWords plan.changes → IsPlaced (of_file file ram mul plan)
 placed file ram mul plan range formed bytes masks =

@@ -46,6 +46,7 @@ bad0_by : (b m : Bool) (bad : ℕ → Bool) (d : ℕ) → (b || (m && bad (if m 
 bad0_by b true bad d = refl
 bad0_by b false bad d = refl
 
+-- the same of way 1, whose data word counts only where way 0 doesn't match
 bad1_by : (b m n : Bool) (bad : ℕ → Bool) (d : ℕ)
     → (b || (not m && n && bad (if (not m && n) then d else 0))) ≡ (b || (not m && n && bad d))
 bad1_by b true n bad d = refl
@@ -56,6 +57,7 @@ bad1_by b false false bad d = refl
 bad0_is : (addr : ℕ) (k : Look) → is_bad0 (gated_look true addr k) addr ≡ is_bad0 k addr
 bad0_is addr k = bad0_by (is_bad_tag k.tag0) (matches k.tag0 addr) is_bad_word k.data0
 
+-- to show 0 for its unused data word leaves whether way 1 is bad
 bad1_is : (addr : ℕ) (k : Look) → is_bad1 (gated_look true addr k) addr ≡ is_bad1 k addr
 bad1_is addr k = bad1_by (is_bad_tag k.tag1) (matches k.tag0 addr) (matches k.tag1 addr) is_bad_word k.data1
 

@@ -30,9 +30,11 @@ use Rattle.ibx_top.specs.Answers.{plain_answer, IsAnswerTo, IsPlannedBy, IsPlann
 use Rattle.ibx_top.specs.Answers.{listed, asm_answer, dis_answer, generated_by}
 use Rattle.ibx_top.proofs.Assembled.{asm_codes}
 
+-- more bytes than a limit are told to be too long
 is_long : (limit : ℕ) (bytes : List ℕ) → limit < length bytes → nat_lt limit (length bytes) ≡ true
 is_long limit bytes h = grind (arith, nat_tests)
 
+-- as many as the limit or fewer are not
 is_short : (limit : ℕ) (bytes : List ℕ) → length bytes ≤ limit → nat_lt limit (length bytes) ≡ false
 is_short limit bytes h = grind (arith, nat_tests)
 
@@ -96,6 +98,7 @@ long_planned task name plan options text bytes h =
     long_plan plan (bounds_of task options) (λ (planned : PlanValue). file_answer name options.ram
     (done task options planned) bytes) text h
 
+-- a command with a faulty plan refuses it with the fault's line, whatever its file holds
 pub bad_planned : (task : Task) (name plan : List ℕ) (options : Options) (text bytes : List ℕ) (fault : PlanFault) →
     length text ≤ plan_limit → plan_of (bounds_of task options) text ≡ Err fault
     → planned_answer task name plan options text bytes ≡ refusal 6 (plan_fault_line plan fault)
@@ -104,6 +107,7 @@ bad_planned task name plan options text bytes fault h e =
     bad_plan plan (bounds_of task options) (λ (planned : PlanValue). file_answer name options.ram
     (done task options planned) bytes) text fault h e
 
+-- under a plan that is followed the command answers to its file
 good_planned : (task : Task) (name plan : List ℕ) (options : Options) (text bytes : List ℕ) (planned : PlanValue) →
     length text ≤ plan_limit → plan_of (bounds_of task options) text ≡ Ok planned
     → planned_answer task name plan options text bytes ≡ file_answer name options.ram (done task options planned) bytes
@@ -141,20 +145,24 @@ abbrev all_codes : Task → List ℕ
 all_codes Run = 0 ∷ 1 ∷ 3 ∷ 4 ∷ 5 ∷ 6 ∷ 7 ∷ []
 all_codes Inject = 0 ∷ 3 ∷ 4 ∷ 5 ∷ 6 ∷ 7 ∷ 8 ∷ []
 
+-- a run has status 0 where a store halted it, and else 1
 halt_one : (halted : Bool) → IsOneOf (ran_codes Run) (halt_code halted)
 halt_one true = refl
 halt_one false = refl
 
+-- an injection has status 8 where there is an alert, and else 0
 alert_one : (alert : Bool) → IsOneOf (ran_codes Inject) (alert_code alert)
 alert_one true = refl
 alert_one false = refl
 
+-- so what is done with an image has a status of its command
 done_codes : (task : Task) (options : Options) (planned : PlanValue) (image : Placed) → IsOneOf (ran_codes task)
     (done task options planned image).code
 unfolding done
 done_codes Run options planned image = halt_one (timed_story (setup_of options planned image) options.cycles).halted
 done_codes Inject options planned image = alert_one (is_some (verdict_of image options planned).first_alert)
 
+-- either command may refuse its file
 five : (task : Task) → IsOneOf (ran_codes task) 5
 five Run = refl
 five Inject = refl
@@ -168,6 +176,7 @@ followed_codes task name options planned bytes =
     (done task options planned image) (five task)
     (done_codes task options planned image)
 
+-- each status under a followed plan is among all that the command has
 more_codes : (task : Task) (code : ℕ) → IsOneOf (ran_codes task) code → IsOneOf (all_codes task) code
 more_codes Run code one = grind arith
 more_codes Inject code one = grind arith
@@ -176,17 +185,21 @@ more_codes Inject code one = grind arith
 abbrev plain_codes : List ℕ
 plain_codes = 0 ∷ 1 ∷ 3 ∷ 4 ∷ 5 ∷ 7 ∷ []
 
+-- a run under the empty plan has one of them
 plain_code : (code : ℕ) → IsOneOf (ran_codes Run) code → IsOneOf plain_codes code
 plain_code code one = grind arith
 
+-- an answer under a followed plan never has the status of a refused plan
 not_six : (task : Task) (code : ℕ) → IsOneOf (ran_codes task) code → code ≡ 6 → ⊥
 not_six Run code one six = let no : false ≡ true = subst (IsOneOf (0 ∷ 1 ∷ 5 ∷ [])) six one in cc
 not_six Inject code one six = let no : false ≡ true = subst (IsOneOf (0 ∷ 5 ∷ 8 ∷ [])) six one in cc
 
+-- either command may refuse its plan
 six_one : (task : Task) → IsOneOf (all_codes task) 6
 six_one Run = refl
 six_one Inject = refl
 
+-- an answer to a plan has status 6, or one of those under the plan that is followed
 plan_codes : (task : Task) (name : List ℕ) (long : Bool) (read : Result PlanValue PlanFault)
     (followed : PlanValue → Answer) → ((planned : PlanValue) → IsOneOf (ran_codes task) (followed planned).code)
     → IsOneOf (all_codes task) (plan_answer_by name long read followed).code
@@ -195,6 +208,7 @@ plan_codes task name true read followed each = six_one task
 plan_codes task name false (Err fault) followed each = six_one task
 plan_codes task name false (Ok planned) followed each = more_codes task (followed planned).code (each planned)
 
+-- so each plan and each file are answered with a status of the command
 planned_codes : (task : Task) (name plan : List ℕ) (options : Options) (text bytes : List ℕ) → IsOneOf (all_codes task)
     (planned_answer task name plan options text bytes).code
 unfolding planned_answer
@@ -203,6 +217,7 @@ planned_codes task name plan options text bytes =
     (λ (p : PlanValue). file_answer name options.ram (done task options p) bytes)
     (λ planned. followed_codes task name options planned bytes)
 
+-- an answer of a command with a plan has such a status, whatever the files hold
 codes_by : (told : Option Contents) (task : Task) (name plan : List ℕ) (options : Options) (answer : Answer) →
     IsPlanned told task name plan options answer → IsOneOf (all_codes task) answer.code
 codes_by told task name plan options answer (text, (content, (bytes, (read, same)))) =
@@ -213,11 +228,13 @@ summed_one : (halted : Bool) → IsOneOf (0 ∷ 1 ∷ 4 ∷ 7 ∷ []) (halt_code
 summed_one true = refl
 summed_one false = refl
 
+-- the answer to a number has one of those, since its program is made and not read
 summed_codes : (number : ℕ) (options : Options) → IsOneOf (0 ∷ 1 ∷ 4 ∷ 7 ∷ []) (generated_by number options).code
 summed_codes number options =
     let image : Placed = image_of (generated number) default_ram in
     summed_one (timed_story (setup_of options empty_plan image) options.cycles).halted
 
+-- whatever the words mean, their answer has a status of that command
 pub answer_codes : (told : Option Contents) (command : Option Meaning) (answer : Answer) → IsAnswer told command answer
     → IsOneOf (codes_of command) answer.code
 answer_codes told None answer is = absurd is
@@ -252,6 +269,7 @@ refused_alike task name false (Err fault) one other each six = refl
 refused_alike task name false (Ok planned) one other each six = absurd (not_six task (one planned).code (each planned)
     six)
 
+-- so where the plan is refused, the bytes of the file make no difference
 any_bytes : (task : Task) (name plan : List ℕ) (options : Options) (text bytes others : List ℕ) →
     (planned_answer task name plan options text bytes).code ≡ 6
     → planned_answer task name plan options text bytes ≡ planned_answer task name plan options text others
@@ -267,6 +285,7 @@ one_content : (contents : Contents) (name bytes others : List ℕ) → contents 
     others → bytes ≡ others
 one_content contents name bytes others is are = same_Some bytes others (sym is ∙ are)
 
+-- two answers to one text of a plan are the same, whether it is refused or the file is read
 one_planned : (contents : Contents) (task : Task) (name plan : List ℕ) (options : Options) (text bytes others : List ℕ)
     (one other : Answer)
     → (one.code ≡ 6) ⊎ (contents name ≡ Some bytes) → one ≡ planned_answer task name plan options text bytes
@@ -280,6 +299,7 @@ one_planned contents task name plan options text bytes others one other (inr _) 
 one_planned contents task name plan options text bytes others one other (inr told) is (inr said) are =
     is ∙ ap (planned_answer task name plan options text) (one_content contents name bytes others told said) ∙ sym are
 
+-- where both names are told, a command with a plan has one answer
 one_by : (contents : Contents) (task : Task) (name plan : List ℕ) (options : Options) (one other : Answer) → IsPlanned
     (Some contents) task name plan options one → IsPlanned (Some contents) task name plan options other → one ≡ other
 one_by contents task name plan options one other (text, (told, (bytes, (read, is))))

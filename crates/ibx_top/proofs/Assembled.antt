@@ -11,9 +11,11 @@ use Rattle.ibx_wrap.specs.Wrapped.{wrapped}
 use Rattle.ibx_top.specs.ErrLines.{text_too_long_line, asm_fault_line}
 use Rattle.ibx_top.specs.Answers.{Answer, refusal, written_answer, text_limit, asm_answer_by, asm_answer, IsOneOf}
 
+-- a text of more bytes than the limit is told to be too long
 is_long : (text : List ℕ) → text_limit < length text → nat_lt text_limit (length text) ≡ true
 is_long text h = grind (arith, nat_tests)
 
+-- a text within the limit is not
 is_short : (text : List ℕ) → length text ≤ text_limit → nat_lt text_limit (length text) ≡ false
 is_short text h = grind (arith, nat_tests)
 
@@ -53,5 +55,6 @@ codes_by name true code = refl
 codes_by name false (Err fault) = refl
 codes_by name false (Ok code) = refl
 
+-- so `asm` answers each text with one of these
 pub asm_codes : (name text : List ℕ) → IsOneOf (0 ∷ 3 ∷ 4 ∷ 7 ∷ 12 ∷ []) (asm_answer name text).code
 asm_codes name text = codes_by name (nat_lt text_limit (length text)) (denoted text)

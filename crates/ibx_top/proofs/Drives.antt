@@ -28,6 +28,7 @@ pub drive_rests : (n : ℕ) (w : Whole State) → (cycle_of w).event ≡ None �
 unfolding drive_from drive_by
 drive_rests n w e = ap (λ (event : Option Event). drive_by event (soc_next w) (drive_from n (soc_next w))) e
 
+-- a cycle with an event puts it before the rest of the run, or ends the run where it halts
 pub drive_event : (n : ℕ) (w : Whole State) (event : Event) (b : Bool) → (cycle_of w).event ≡ Some event → halts event
     ≡ b
     → drive_from (suc n) w ≡ drive_after b event (soc_next w) (drive_from n (soc_next w))
@@ -40,11 +41,13 @@ drive_event n w event b e h =
 unfoldable pub text_from : ℕ → Drive → List ℕ
 text_from events d = flat_map line_of d.events ++ end_line_of d.halted d.left.place.cycle (events + length d.events)
 
+-- from the first cycle on it is the text of the whole run
 text_from-start : (d : Drive) → text_from 0 d ≡ drive_text d
 unfolding text_from drive_text
 text_from-start d = ap (λ (n : ℕ). flat_map line_of d.events ++ end_line_of d.halted d.left.place.cycle n)
     (zero-add (length d.events))
 
+-- an event that doesn't halt has its line, then comes the rest with one event more before it
 text_from-goes_on : (events : ℕ) (event : Event) (next : Whole State) (rest : Drive) → text_from events
     (drive_after false event next rest) ≡ line_of event ++ text_from (events + 1) rest
 unfolding text_from drive_after
@@ -55,6 +58,7 @@ text_from-goes_on events event next rest =
     ∙ append_assoc (line_of event) (flat_map line_of rest.events) (end_line_of rest.halted rest.left.place.cycle
     (events + 1 + length rest.events))
 
+-- after the line of a halting event there is only the last line
 text_from-halts : (events cycle : ℕ) (event : Event) (next : Whole State) (rest : Drive) → next.place.cycle ≡ cycle
     → text_from events (drive_after true event next rest) ≡ line_of event ++ end_line_of true cycle (events + 1)
 unfolding text_from drive_after
@@ -62,6 +66,7 @@ text_from-halts events cycle event next rest e =
     append_assoc (line_of event) [] (end_line_of true next.place.cycle (events + 1))
     ∙ ap (λ (c : ℕ). line_of event ++ end_line_of true c (events + 1)) e
 
+-- where no cycle is left there is only the last line, which tells of no halting store
 text_from-spent : (events cycle : ℕ) (w : Whole State) → w.place.cycle ≡ cycle → text_from events (drive_from 0 w) ≡
     end_line_of false cycle events
 unfolding text_from drive_from
@@ -83,6 +88,7 @@ pub record HasMade (budget : ℕ) (start : Whole State) (before now : Option (Li
   pub halted : (drive_from left w).halted ≡ (drive_from budget start).halted
   pub state : (drive_from left w).left ≡ (drive_from budget start).left
 
+-- before its first cycle a run has printed nothing
 pub starts : (budget : ℕ) (start : Whole State) (before : Option (List ℕ)) → start.place.cycle ≡ 0 → HasMade budget
     start before before start 0 0
 unfolding run

@@ -29,6 +29,7 @@ use Rattle.ibx_top.proofs.Twins.{tells_time}
 some_longer : (limit : ℕ) → (bytes : List ℕ) × (limit < length bytes)
 some_longer limit = (replicate (limit + 1) 0, omega (arith, length-replicate {A = ℕ} (limit + 1) 0))
 
+-- the content of a told name, where it is longer than a limit
 longer_at : (contents : Contents) (name : List ℕ) (limit : ℕ) (content : Option (List ℕ)) → contents name ≡ content →
     IsSomeAnd content (λ bytes. limit < length bytes)
     → (bytes : List ℕ) × (IsContent (Some contents) name bytes × (limit < length bytes))
@@ -60,6 +61,7 @@ if_answered-weaker BadWords P Q f h = tt
 if_answered-weaker (CannotRead name) P Q f h = tt
 if_answered-weaker OutOfMemory P Q f h = tt
 
+-- the same where the output can't be written
 if_unwritten-weaker : (outcome : Outcome) (P Q : Type 0) → (P → Q) → IfUnwritten outcome P → IfUnwritten outcome Q
 if_unwritten-weaker CannotWrite P Q f h = f h
 if_unwritten-weaker (Ran halted seal) P Q f h = tt
@@ -76,6 +78,7 @@ if_unwritten-weaker Written P Q f h = tt
 if_unwritten-weaker (TextTooLong name) P Q f h = tt
 if_unwritten-weaker (TextRefused name fault) P Q f h = tt
 
+-- and where a file can't be read, of whatever name
 if_unread-weaker : (outcome : Outcome) (P Q : List ℕ → Type 0) → ((said : List ℕ) → P said → Q said) → IfUnread outcome
     P → IfUnread outcome Q
 if_unread-weaker (CannotRead name) P Q f h = f name.now h
@@ -93,6 +96,7 @@ if_unread-weaker Written P Q f h = tt
 if_unread-weaker (TextTooLong name) P Q f h = tt
 if_unread-weaker (TextRefused name fault) P Q f h = tt
 
+-- an end past reading isn't that of a file that can't be read
 no_unread : (outcome : Outcome) (P : List ℕ → Type 0) → IsPastReading outcome → IfUnread outcome P
 no_unread (CannotRead name) P past = absurd past
 no_unread BadWords P past = absurd past
@@ -139,14 +143,17 @@ settles_refusal code answer end line before e is said unsealed = record {
 
 -- ---- a file read before others
 
+-- a count that never falls and then rises rose from its first value
 rose_later : (before middle after : ℕ) → before ≤ middle → Rose middle after → Rose before after
 rose_later before middle after h rose = omega arith
 
+-- a name that has a content counts no miss
 miss_stays_at : (before after : ℕ) (content : Option (List ℕ)) → MatchOption content (Rose before after)
     (λ _. after ≡ before) → IsSome content → after ≡ before
 miss_stays_at before after None h there = let no : false ≡ true = there in cc
 miss_stays_at before after (Some bytes) h there = h
 
+-- nor does a file that is there, whether its content is told or not
 miss_stays : (told : Option Contents) (name : List ℕ) (before after : ℕ) → CountsMiss told name before after → IsThere
     told name → after ≡ before
 miss_stays None name before after h there = h
@@ -170,6 +177,7 @@ reads_after {F} contents begun faults misses name names outcome before middle af
       (λ said. IsAmong (name ∷ names) said × IsBegunAs said (begun after)) (λ said h. (inr h.0, h.1)) r.unread;
 }
 
+-- a call that reads no file leaves the files as they are
 no_reads : {F : Type 0} (contents : F → Option Contents) (begun : F → Option Begun) (faults misses : F → ℕ)
     (outcome : Outcome) (files : F) → IsPastReading outcome → Reads contents begun faults misses [] outcome files files
 no_reads {F} contents begun faults misses outcome files past = record {
@@ -192,6 +200,7 @@ reads_one {F} contents begun faults misses name outcome before after kept falls 
 
 -- ---- the clauses of the top call
 
+-- each command has the statuses of an output that can't be written and of want of memory
 other_codes : (command : Option Meaning) → (command ≡ None → ⊥) → IsOneOf (codes_of command) 4 ×
     IsOneOf (codes_of command) 7
 other_codes None some = absurd (some refl)
@@ -222,6 +231,7 @@ means : {F : Type 0} (command : Option Meaning) (outcome : Outcome) (before afte
     after → (outcome ≡ BadWords → ⊥) → command ≡ None → ⊥
 means {F} command outcome before after fits other none = other (fits.no_words none)
 
+-- an end that settles an answer has the answer's status, which is one of the command
 settled_code : {K : Type 0} (taken : K → Option (List ℕ)) (told : Option Contents) (command : Option Meaning)
     (outcome : Outcome) (before after : K)
     → (answer : Answer) × (IsAnswer told command answer × Settles answer outcome (taken before) (taken after)) →
@@ -265,6 +275,7 @@ command_codes {F} {K} taken faults told command CannotWrite fb fa before after R
 command_codes {F} {K} taken faults told command OutOfMemory fb fa before after Read fits unread prints =
     (other_codes command (means command OutOfMemory fb fa fits (λ e. cc))).1
 
+-- an end that settles some answer settles the wanted one: where the names are told there is only one
 given : {K : Type 0} (taken : K → Option (List ℕ)) (contents : Contents) (command : Option Meaning) (outcome : Outcome)
     (code seal : ℕ) (before after : K) (wanted : Answer)
     → code ≡ code_of outcome → seal ≡ seal_in outcome → IsAnswer (Some contents) command wanted
@@ -275,6 +286,7 @@ given {K} taken contents command outcome code seal before after wanted e sealed 
     inr (subst (λ (a : Answer). Gives a code seal (taken before) (taken after)) same
     (record { status = e ∙ settles.code; sealed = sealed ∙ settles.seal; text = settles.text }))
 
+-- where the names are told and no file or output fails, the answer is given, or memory is short
 told_complete : {F K : Type 0} (taken : K → Option (List ℕ)) (faults : K → ℕ) (contents : Contents)
     (command : Option Meaning) (outcome : Outcome) (code seal : ℕ) (files_before files_after : F) (before after : K)
     (Read : Type 0)
@@ -337,6 +349,7 @@ complete {F} {K} taken faults (Some contents) command outcome code sl fb fa befo
     told_complete taken faults contents command outcome code sl fb fa before after Read e sealed fits unread prints r w
     answer is
 
+-- a test can't fail and hold
 impossible : false ≡ true → ⊥
 impossible e = cc
 
@@ -344,6 +357,7 @@ impossible e = cc
 not_run : (code other : ℕ) → code ≡ other → (IsOneOf (0 ∷ 8 ∷ []) other → ⊥) → IsOneOf (0 ∷ 8 ∷ []) code → ⊥
 not_run code other e none one = none (subst (IsOneOf (0 ∷ 8 ∷ [])) e one)
 
+-- an end with status 0 or 8 of an injection is that of its verdict
 notices_by : (outcome : Outcome) (code : ℕ) (before after : Option (List ℕ)) → code ≡ code_of outcome → EndsNoticed
     outcome before after → IsOneOf (0 ∷ 8 ∷ []) code → Notices code before after
 notices_by (Ran halted seal) code before after e h one = absurd h

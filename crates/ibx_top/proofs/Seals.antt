@@ -11,6 +11,7 @@ use Rattle.ibx_top.specs.Seals.{seal_of}
 abbrev pub sum_to : State → ℕ → ℕ
 sum_to s n = sum (take n (fields s)) % 2 ^ 64
 
+-- before the first field the sum is 0
 pub no_fields : (s : State) → 0 ≡ sum_to s 0
 no_fields s = refl
 

@@ -105,6 +105,7 @@ pub record HasRun (budget : ℕ) (start w : Whole State) (index sum events : ℕ
   pub cycle : w.place.cycle ≡ index
   pub up : SumsUp (drive_from budget start) (drive_from left w) sum events
 
+-- before the first cycle nothing is summed, and the whole budget is left
 pub begins : (budget : ℕ) (start : Whole State) → start.place.cycle ≡ 0 → HasRun budget start start 0 0 0
 begins budget start new = record {
   left = budget;

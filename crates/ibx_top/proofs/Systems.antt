@@ -7,6 +7,7 @@ use Rattle.ibx_plan.specs.Plan.{PlanValue}
 use Rattle.ibx_soc.specs.declared.config.Config.{Config}
 use Rattle.ibx_soc.specs.First.{words_from, image_words, first}
 
+-- as many words are read of the image as are asked for
 words_length : (image : Placed) (addr n : ℕ) → length (words_from image addr n) ≡ n
 unfolding words_from
 words_length image addr zero = refl

@@ -46,12 +46,14 @@ halts_alike (Irq cycle pc cause) = refl
 
 -- ---- the events, up to the halting one
 
+-- an event before the others: where it halts, they are cut off
 after_events : (b : Bool) (e : Event) (n : Whole State) (d : Drive) (es : List Event) → d.events ≡ up_to_halt es
     → (drive_after b e n d).events ≡ (if b then e ∷ [] else e ∷ up_to_halt es)
 unfolding drive_after
 after_events true e n d es same = refl
 after_events false e n d es same = ap (λ (rest : List Event). e ∷ rest) same
 
+-- a first cycle puts its event, if it has one, before those up to the halting one
 by_events : (o : Option Event) (n : Whole State) (d : Drive) (es : List Event) → d.events ≡ up_to_halt es →
     (drive_by o n d).events ≡ up_to_halt (with_event o es)
 unfolding drive_by up_to_halt
@@ -60,6 +62,7 @@ by_events (Some e) n d es same =
     after_events (halts e) e n d es same ∙ ap (λ (b : Bool). if b then e ∷ [] else e ∷ up_to_halt es)
     (sym (halts_alike e))
 
+-- so a run has the events of its cycles up to the first that halts
 pub drive_events : (n : ℕ) (w : Whole State) → (drive_from n w).events ≡ up_to_halt (events_of n w)
 unfolding drive_from events_of up_to_halt
 drive_events zero w = refl
@@ -69,18 +72,21 @@ drive_events (suc n) w =
 
 -- ---- whether one of them halts
 
+-- a run that begins with an event is halted by it or by a later one
 after_halted : (b : Bool) (e : Event) (n : Whole State) (d : Drive) (any : Bool) → d.halted ≡ any →
     (drive_after b e n d).halted ≡ (b || any)
 unfolding drive_after
 after_halted true e n d any same = refl
 after_halted false e n d any same = same
 
+-- a run with a first cycle is halted just where an event of it or of the rest halts
 by_halted : (o : Option Event) (n : Whole State) (d : Drive) (es : List Event) → d.halted ≡ list_any halts es →
     (drive_by o n d).halted ≡ list_any halts (with_event o es)
 unfolding drive_by
 by_halted None n d es same = same
 by_halted (Some e) n d es same = after_halted (halts e) e n d (list_any halts es) same
 
+-- so a run is halted just where an event of its cycles halts
 drive_halted : (n : ℕ) (w : Whole State) → (drive_from n w).halted ≡ list_any halts (events_of n w)
 unfolding drive_from events_of
 drive_halted zero w = refl
@@ -96,6 +102,7 @@ record Ends (first cycles : ℕ) (d : Drive) : Type 0 where
   pub halts : (before : ℕ) → d.halted ≡ true → d.left.place.cycle ≡ cycles_passed before d.events
   pub goes_on : d.halted ≡ false → d.left.place.cycle ≡ first + cycles
 
+-- what happens in a cycle is an event of that cycle
 happened : (c : ℕ) (o : Option Event) (e : Event) → happens_at c o ≡ Some e → event_cycle e ≡ c
 happened c None e h = cc
 happened c (Some (Retire cycle pc word rd value mem ctl ops)) e h = cc
@@ -107,6 +114,7 @@ happened_in : (w : Whole State) (e : Event) → (cycle_of w).event ≡ Some e �
 unfolding cycle_of
 happened_in w e h = happened w.place.cycle (output_of core_parts w).event e h
 
+-- after a halting event the run ends in the next cycle, and after another one as the rest does
 after_ends : (b : Bool) (e : Event) (first n : ℕ) (next : Whole State) (d : Drive) → event_cycle e ≡ first →
     next.place.cycle ≡ first + 1 → Ends (first + 1) n d
     → Ends first (suc n) (drive_after b e next d)
@@ -120,6 +128,7 @@ after_ends false e first n next d at following ends = record {
   goes_on = λ halted. ends.goes_on halted ∙ (let count : first + 1 + n ≡ first + suc n = omega arith in count);
 }
 
+-- a first cycle takes one of the cycles, with an event or without
 by_ends : (o : Option Event) (first n : ℕ) (next : Whole State) (d : Drive) → ((e : Event) → o ≡ Some e → event_cycle e
     ≡ first) → next.place.cycle ≡ first + 1 → Ends (first + 1) n d
     → Ends first (suc n) (drive_by o next d)
@@ -130,10 +139,12 @@ by_ends None first n next d at following ends = record {
 }
 by_ends (Some e) first n next d at following ends = after_ends (halts e) e first n next d (at e refl) following ends
 
+-- a step of the system counts one cycle
 cycle_next : (w : Whole State) → (soc_next w).place.cycle ≡ w.place.cycle + 1
 unfolding next settle
 cycle_next w = refl
 
+-- so each run ends after its halting event, or when all its cycles are made
 drive_ends : (n : ℕ) (w : Whole State) → Ends w.place.cycle n (drive_from n w)
 unfolding drive_from
 drive_ends zero w = record {
@@ -149,6 +160,7 @@ drive_ends (suc n) w =
 
 -- ---- the text
 
+-- the last line has the cycle after the halting event's, or the whole budget
 end_alike : (b : Bool) (budget : ℕ) (d : Drive) → d.halted ≡ b → Ends 0 budget d
     → end_line_of d.halted d.left.place.cycle (length d.events) ≡ end_line_of b (if b then cycles_passed 0 d.events
     else budget) (length d.events)

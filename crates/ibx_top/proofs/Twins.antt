@@ -123,9 +123,11 @@ plain_codes = 0 ∷ 3 ∷ 4 ∷ 5 ∷ 7 ∷ 9 ∷ []
 abbrev planned_codes : List ℕ
 planned_codes = 0 ∷ 3 ∷ 4 ∷ 5 ∷ 6 ∷ 7 ∷ 9 ∷ []
 
+-- each status under a followed plan is one of `twin` without a plan
 more_plain : (code : ℕ) → IsOneOf pair_codes code → IsOneOf plain_codes code
 more_plain code one = grind arith
 
+-- and one of `twin` with a plan
 more_planned : (code : ℕ) → IsOneOf pair_codes code → IsOneOf planned_codes code
 more_planned code one = grind arith
 
@@ -215,6 +217,7 @@ one_twin contents first second (Some plan) options one other (text, (told, is)) 
 abbrev IsRan : Answer → Type 0
 IsRan answer = IsOneOf (0 ∷ 9 ∷ []) answer.code
 
+-- a test can't fail and hold
 impossible : false ≡ true → ⊥
 impossible e = cc
 
@@ -245,6 +248,7 @@ has_run_by told name ram Ran answer bytes false None e f content is ran = record
   ran = is;
 }
 
+-- a file whose answer is no refusal has an image, and the answer is one to that image
 has_run : (told : Option Contents) (name : List ℕ) (ram : Ram) (Ran : Placed → Answer → Type 0) (answer : Answer)
     → IsFileAnswer told name ram Ran answer → IsRan answer → HasRun told name ram Ran answer
 has_run told name ram Ran answer (bytes, (content, is)) ran =

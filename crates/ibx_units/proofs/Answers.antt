@@ -49,6 +49,7 @@ silent_none w rsp l e =
     none_by (answers_by (doing_of w.c_state) rsp.valid (is_hit l w.c_addr))
     (not (entry_by (doing_of w.c_state) w rsp l / 2 ^ 32 == 0)) (entry_by (doing_of w.c_state) w rsp l % 2 ^ 32) e
 
+-- the port's answer has a word of 32 bits, whether it is valid or not
 word_width : (w : WordPort) (rsp : Rsp) (l : Look) → (answer_of w rsp l).word < 2 ^ 32
 unfolding answer_of
 word_width w rsp l =
@@ -63,7 +64,7 @@ same_entry true false m n low small e = absurd (omega (arith, e))
 same_entry false true m n low small e = absurd (omega (arith, e))
 same_entry false false m n low small e = (refl, omega (arith, e))
 
--- so an answer with this entry is this one
+-- a valid answer with this error and this word is this one
 made_is : (a : WordAns) (err : Bool) (word : ℕ) → a.valid ≡ true → a.err ≡ err → a.word ≡ word
     → a ≡ answer_if true err word
 made_is a err word v e m = by a.valid true a.err err a.word word v e m
@@ -74,6 +75,7 @@ made_is a err word v e m = by a.valid true a.err err a.word word v e m
     by : (b c u v : Bool) (m n : ℕ) → b ≡ c → u ≡ v → m ≡ n → made b u m ≡ made c v n
     by b c u v m n e f g = cc
 
+-- so a valid answer whose error and word make this entry is this one
 comes_as : (a : WordAns) (err : Bool) (word : ℕ) → a.valid ≡ true → a.word < 2 ^ 32 → word < 2 ^ 32
     → entry_of a.err a.word ≡ entry_of err word → a ≡ answer_if true err word
 comes_as a err word v low small e =
@@ -101,17 +103,19 @@ due_by s log x q c b e =
 
 -- ---- the port at rest
 
+-- a port at rest gives no answer, whatever the bus and the cache show it
 rest_silent : (w : WordPort) (rsp : Rsp) (l : Look) → doing_of w.c_state ≡ Rests → (answer_of w rsp l).valid ≡ false
 unfolding answer_of answers_by
 rest_silent w rsp l e = rw e refl
 
 -- ---- by the outstanding request
 
--- a cached request has its walk behind it
+-- where two tests hold the second does
 and_second : (a b : Bool) → (a && b) ≡ true → b ≡ true
 and_second true b h = h
 and_second false b h = let no_ : false ≡ true = h in cc
 
+-- a cached request has its walk behind it
 walked_of : (ss : List Switch) (fs : List ℕ) (t : ℕ) → is_cached ss fs t ≡ true → is_walked fs t ≡ true
 unfolding is_cached
 walked_of ss fs t h = and_second (enabled_at ss t) (is_walked fs t) h

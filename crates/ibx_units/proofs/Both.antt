@@ -51,6 +51,7 @@ all_late : (log : List Write) → AreLate log 0
 all_late [] = tt
 all_late (w ∷ log) = (omega arith, all_late log)
 
+-- writes with none after them are the same writes
 append_none : (log : List Write) → log ≡ log ++ []
 append_none [] = refl
 append_none (w ∷ log) = ap (λ ws. w ∷ ws) (append_none log)
@@ -75,6 +76,7 @@ due_answer : (s : Setup) (log : List Write) (x : Stream) (q c : ℕ) → asked_b
     → answer_in s log x c ≡ answer_by s log x q c
 due_answer s log x q c e = ap (λ n. answer_by s log x n c) e
 
+-- the request of a cycle by that count is what is requested in it
 due_request : (s : Setup) (x : Stream) (q c : ℕ) → asked_by (settings_of s) x c ≡ q
     → request_in (settings_of s) x c ≡ request_by (settings_of s) x q c
 due_request s x q c e = ap (λ n. request_by (settings_of s) x n c) e
@@ -219,6 +221,7 @@ step s r memory c ok course holds b =
     (middle s r.writes y b.count c (r.moves c).left (r.moves c).redirect (buffer_at s r c) v.words v.port v.tags v.lines
     b.words (λ e. subst (λ n. 0 < n) before_ ((course c).begun e)) (course c).target)
 
+-- so both units hold the words of the course before every cycle
 both_at : (s : Setup) (r : Course) (memory : ℕ → MemoryState) (c : ℕ) → IsPlaced s → IsCourse s r
     → HoldsWrites s r memory → BothAt s r memory c
 both_at s r memory zero ok course holds = first_both s r memory ok

@@ -20,6 +20,7 @@ unfolding coded_words
 words_count m a zero = refl
 words_count m a (suc n) = omega (arith, words_count m (a + 4) n)
 
+-- word i is the codeword of the four bytes at its address
 words_are : (m : Memory) (a n i : ℕ) → i < n
     → slice_index (coded_words m a n) i ≡ encode_of 32 7 (read_bytes m (a + 4 * i) 4)
 unfolding coded_words

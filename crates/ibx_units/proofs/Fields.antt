@@ -16,7 +16,7 @@ use Rattle.ibx_time.specs.Streams.{Stream, past}
 use Rattle.ibx_time.specs.Times.{Times}
 use Rattle.ibx_units.specs.Buffer.{IsBuffer, is_awaited}
 
--- no word of the stream is requested yet
+-- the test of the invariant and that of the law for no request yet are the same
 zero_is : (q : ℕ) → is_zero q ≡ (q == 0)
 zero_is zero = refl
 zero_is (suc q) = sym (ne_eqb (suc q) 0 (λ e. absurd (omega (arith, e))))
@@ -45,6 +45,7 @@ drop_is q m count busy drop (coming b d n) =
     d ∙ sym (ap₂ (λ u v. u && v) b (ne_eqb q 0 (λ e. absurd (omega (arith, n, e)))))
 drop_is q m count busy drop (dropped b d z nothing none) = d ∙ sym (ap₂ (λ u v. u && v) b (eq-eqb q 0 z))
 
+-- the kept words, the taken ones and one that is still to come are the requested ones
 count_is : (q m count : ℕ) (busy drop : Bool) → Count q m busy drop count
     → count + m + (if busy && not (q == 0) then 1 else 0) ≡ q
 count_is q m count busy drop (rest b d n) =

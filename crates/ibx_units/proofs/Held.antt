@@ -47,6 +47,7 @@ holds_by s y q c enable f w p tags lines v =
 abbrev HoldsAt : Setup → ℕ → System → Type 0
 HoldsAt s c st = HoldsStory s (story_at s c) c st.main.fetch st.main.words st.tags st.lines
 
+-- before each cycle that machine holds the words of the history
 holds_at : (s : Setup) → IsPlaced s → (c : ℕ) → HoldsAt s c (system_at s c)
 holds_at s ok c =
     let h : Story = (told_below s c).story in

@@ -62,9 +62,11 @@ rests_move s y c = record {
 abbrev with_move : (ℕ → Move) → ℕ → Move → ℕ → Move
 with_move moves c m d = if d == c then m else moves d
 
+-- in cycle c it brings the added move
 at_move : (moves : ℕ → Move) (c : ℕ) (m : Move) → with_move moves c m c ≡ m
 at_move moves c m = ap (λ b. if b then m else moves c) (eq-eqb c c refl)
 
+-- in an earlier cycle it brings what it brought
 before_move : (moves : ℕ → Move) (c : ℕ) (m : Move) (d : ℕ) → d < c → with_move moves c m d ≡ moves d
 before_move moves c m d less = ap (λ b. if b then m else moves d) (ne_eqb d c (λ e. absurd (omega (arith, e, less))))
 
@@ -106,6 +108,7 @@ fits_on s n y m l one_ c =
       ]
     ]
 
+-- a move that fits the words reached leads on to those of the next cycle
 leads_on : (s : Setup) (n : ℕ) (y z : Times) (m : Move) (l : Leads s n y) → IsMove s (times_at s l.moves n) n m
     → SameWords (taken_by m.taken n (in_cycle (settings_of s) m n (times_at s l.moves n))) z
     → Leads s (suc n) z
@@ -125,11 +128,12 @@ leads_on s n y z m l one_ same_ =
 
 -- ---- times with the same words
 
--- they stay so
+-- times that both have the words of a third have the same words
 same_trans : (x y z : Times) → SameWords x y → SameWords y z → SameWords x z
 same_trans x y z a b =
     record { stream = a.stream ∙ b.stream; half = a.half ∙ b.half; ctl = a.ctl ∙ b.ctl }
 
+-- an event and a redirect leave them the same
 same_in : (k : Settings) (m : Move) (c : ℕ) (x y : Times) → SameWords x y → SameWords (in_cycle k m c x)
     (in_cycle k m c y)
 same_in k m c x y e = by m.left
@@ -147,6 +151,7 @@ same_in k m c x y e = by m.left
       ctl = refl;
     }
 
+-- so do the parcels that are taken
 same_taken : (n c : ℕ) (x y : Times) → SameWords x y → SameWords (taken_by n c x) (taken_by n c y)
 same_taken n c x y e = record {
   stream = ap₂ (λ (u : Stream) h. record u { enters = entered h n (c + 1) u.enters }) e.stream e.half;
@@ -154,6 +159,7 @@ same_taken n c x y e = record {
   ctl = e.ctl;
 }
 
+-- so many parcels have answered to both, or to neither
 same_answered : (k : Settings) (x y : Times) (n c : ℕ) → SameWords x y → has_answered k x n c ≡ has_answered k y n c
 unfolding has_answered
 same_answered k x y n c e = ap₂ (λ (u : Stream) h. nat_le (answer k u (length u.enters)) c
@@ -219,6 +225,7 @@ record IsFit (s : Setup) (h : Story) (c n : ℕ) : Type 0 where
   few : n ≤ 2
   there : 0 < n → has_answered (settings_of s) h.times n c ≡ true
 
+-- the parcels of a ready item fit; an interrupt and a dummy take none
 fit_by : (s : Setup) (h : Story) (c : ℕ) (kind : Kind) → is_ready kind (words_there s h c) ≡ true
     → IsFit s h c (item_by s h (choice_by s h kind)).parcels
 unfolding item_of dummy_item step_with interrupted view_of words_there
@@ -275,7 +282,7 @@ unfolding after_event
 ended_same s h y None i d n = record { stream = refl; half = refl; ctl = refl }
 ended_same s h y (Some choice) i d n = record { stream = refl; half = refl; ctl = refl }
 
--- a redirect goes to the next story's program counter
+-- a redirect to an even program counter of 32 bits goes to a halfword of the address space
 target_by : (b : Bool) (pc target : ℕ) → target_if b pc ≡ Some target → pc % 2 ≡ 0 → pc < 2 ^ 32 → IsTarget target
 target_by true pc target e even low = by pc target even low (some_is pc target e)
   where
@@ -287,6 +294,7 @@ target_by true pc target e even low = by pc target even low (some_is pc target e
         record { even = ap (λ n. n % 2) (sym e) ∙ even; low = subst (λ n. n < 2 ^ 32) e low }
 target_by false pc target e even low = let no_ : None ≡ Some target = e in cc
 
+-- so does that of a done item, where the next story's program counter is such a one
 ended_target : (s : Setup) (h y : Story) (o : Option Choice) (i : Item) (d n target : ℕ)
     → (ended_move s h y o i d n).redirect ≡ Some target → (ended_by s h o i d y).state.pc % 2 ≡ 0
     → (ended_by s h o i d y).state.pc < 2 ^ 32 → IsTarget target
@@ -294,11 +302,13 @@ ended_target s h y None i d n target e even low = let no_ : None ≡ Some target
 ended_target s h y (Some choice) i d n target e even low =
     target_by i.redirects (step_with (lines_in (settings_of s)) h.state choice d).next.pc target e even low
 
+-- a move has a FENCE.I only where the done item fences
 ended_fence : (s : Setup) (h y : Story) (o : Option Choice) (i : Item) (d n : ℕ)
     → is_fence (ended_move s h y o i d n).left ≡ true → i.fences ≡ true
 ended_fence s h y None i d n e = let no_ : false ≡ true = e in cc
 ended_fence s h y (Some choice) i d n e = e
 
+-- the move takes so many parcels, whether the item has an event or is a dummy
 ended_taken : (s : Setup) (h y : Story) (o : Option Choice) (i : Item) (d n : ℕ)
     → (ended_move s h y o i d n).taken ≡ n
 ended_taken s h y None i d n = refl
@@ -311,6 +321,7 @@ fences_by s h (AnInterrupt number) e = let no_ : false ≡ true = e in cc
 fences_by s h ADummy e = let no_ : false ≡ true = e in cc
 fences_by s h AnInstruction e = refl
 
+-- so an admitted item that fences is neither an interrupt nor a dummy
 fences_real : (s : Setup) (t : ℕ) (h : Story) → (item_at s t h).fences ≡ true → kind_of s t h ≡ AnInstruction
 unfolding item_at
 fences_real s t h e = fences_by s h (kind_of s t h) e
@@ -333,6 +344,7 @@ none_late s limit c h id md ls p u =
       first_not_before (limit - c) (λ t. is_ready (kind_at (settings_of s) h.times t) (words_there s h t)) c,
     )
 
+-- the stage holds the open item of the history, or nothing where none is open
 pub open_is : (s : Setup) (c : ℕ) (h : Story) (o : Option ℕ) (id : IdState) (md : MulDivUnit) (ls : Lsu)
     (p : PortState) → StageAt s c h o c id md ls p → open_item s c h ≡ o
 open_is s c h None id md ls p u = rw (le-ltb (admission s c h) c (none_late s c c h id md ls p u)) refl
@@ -347,6 +359,7 @@ record Taken (s : Setup) (limit c : ℕ) (h : Story) (o : Option ℕ) : Type 0 w
   fit : IsFit s h c taken_
   same : SameWords (taken_by taken_ c h.times) (with_item s h o).times
 
+-- where no item is admitted nothing is taken, and the words stay
 none_taken : (s : Setup) (limit c : ℕ) (h : Story) → h.times.half < 2 → Taken s limit c h None
 none_taken s limit c h low = record {
   taken_ = 0;
@@ -354,6 +367,7 @@ none_taken s limit c h low = record {
   same = same_none c h.times low;
 }
 
+-- the item that is admitted in this cycle takes its parcels now
 one_taken : (s : Setup) (limit c t : ℕ) (h : Story) → t ≡ c → admission s limit h ≡ t → c < limit
     → Taken s limit c h (Some t)
 one_taken s limit c t h at adm less =
@@ -409,6 +423,7 @@ later_by ws OneBad n t stop h = omega arith
 later_by ws Two n t stop h = omega arith
 later_by ws TwoBad n t stop h = omega arith
 
+-- so no item is done in the cycle of its admission
 done_late : (s : Setup) (limit t : ℕ) (h : Story) → t < done_at s limit t h
 unfolding done_of
 done_late s limit t h =
@@ -425,10 +440,12 @@ unfolding admission
 admission_late s limit h =
     first_not_before (limit - h.done) (λ t. is_ready (kind_at (settings_of s) h.times t) (words_there s h t)) h.done
 
+-- an item's end sets the done cycle, whether it has an event or is a dummy
 ended_done : (s : Setup) (h y : Story) (o : Option Choice) (i : Item) (d : ℕ) → (ended_by s h o i d y).done ≡ d
 ended_done s h y (Some choice) i d = refl
 ended_done s h y None i d = refl
 
+-- the next story goes on from the done cycle of its item
 next_done : (s : Setup) (limit t : ℕ) (h : Story) → (continued s limit t h).done ≡ done_at s limit t h
 unfolding continued
 next_done s limit t h = ended_done s h (taken s t h) (choice_at s t h) (item_at s t h) (done_at s limit t h)
@@ -468,6 +485,7 @@ done_on s limit t h u q v st x i done j at less l =
     (same_trans (taken_by n.taken_ d (in_cycle k m d y.times)) (taken_by n.taken_ d z.times) (with_item s z u).times
     (same_taken n.taken_ d (in_cycle k m d y.times) z.times same) n.same)))
 
+-- a cycle in which the history ends an item leads on, since the stage held just that item
 ended_on : (s : Setup) (limit t : ℕ) (h : Story) (o u : Option ℕ) (q v : ℕ) (st x : System) → Inv s limit h o q st
     → admission s limit h ≡ t → done_at s limit t h ≡ st.cycle → Inv s limit (continued s limit t h) u v x
     → x.cycle ≡ st.cycle + 1 → st.cycle < limit → Leads s st.cycle (with_item s h o).times
@@ -538,6 +556,7 @@ leads_first s = record {
   same = record { stream = refl; half = refl; ctl = refl };
 }
 
+-- the machine begins in cycle 0
 first_cycle : (s : Setup) → (first_system s).cycle ≡ 0
 unfolding first_system
 first_cycle s = refl

@@ -100,6 +100,7 @@ unfolding received
 silent_busy true drop entry f e = let no_ : true ≡ false = e in cc
 silent_busy false drop entry f e = refl
 
+-- a buffer that waits for a word still waits, whether it requests one or not
 requested_busy : (o : Option ℕ) (f : Prefetch) → f.f_busy ≡ true → (requested o f).f_busy ≡ true
 unfolding requested
 requested_busy None f e = e
@@ -173,6 +174,7 @@ pub record Middle (s : Setup) (log : List Write) (y z : Times) (c : ℕ) (fence 
   pub mid : WordsMid s log z.stream z.half count c fence (enables_cache y.ctl) (enables_cache z.ctl) (turned o f) w p
       tags lines
 
+-- from the words before a cycle to those after its event and its redirect
 pub middle : (s : Setup) (log : List Write) (y : Times) (q c : ℕ) (l : Option Left) (o : Option ℕ) (f : Prefetch)
     (w : WordPort) (p : PortState) (tags lines : List ℕ)
     → WordsAt s log y.stream y.half q c (enables_cache y.ctl) f w p tags lines → (is_fence l ≡ true → 0 < q)

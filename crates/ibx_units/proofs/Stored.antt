@@ -43,11 +43,13 @@ bare_fills : (k : Settings) (ss : List Switch) (fs : List ℕ) (y : Past) (t a :
 unfolding request_by
 bare_fills k ss fs y t a e = rw e refl
 
+-- a cached request whose line is present fills nothing
 hit_fills : (k : Settings) (ss : List Switch) (fs : List ℕ) (y : Past) (t a : ℕ) → is_cached ss fs t ≡ true
     → is_present fs y.fills (line_of a) t ≡ true → (after_request k ss fs y t a).fills ≡ y.fills
 unfolding request_by
 hit_fills k ss fs y t a e h = rw (e, h) refl
 
+-- one whose line is absent leaves its own fill, where it is kept
 miss_fills : (k : Settings) (ss : List Switch) (fs : List ℕ) (y : Past) (t a : ℕ) → is_cached ss fs t ≡ true
     → is_present fs y.fills (line_of a) t ≡ false → (after_request k ss fs y t a).fills ≡ filled k fs y t a
 unfolding request_by
@@ -70,6 +72,7 @@ bare_stands s log ss fs y t a c w tags lines e k = record {
   cache = k;
 }
 
+-- the fill of an absent line isn't stored up to the answer of its second word
 miss_stands : (s : Setup) (log : List Write) (ss : List Switch) (fs : List ℕ) (y : Past) (t a c : ℕ) (w : WordPort)
     (tags lines : List ℕ) → is_cached ss fs t ≡ true → is_present fs y.fills (line_of a) t ≡ false
     → c ≤ second_answer (settings_of s) y t → CacheAt s log fs y.fills c c w.c_walk w.c_alt tags lines
@@ -82,6 +85,7 @@ miss_stands s log ss fs y t a c w tags lines e absent late k = record {
   cache = k;
 }
 
+-- in the cycle of the lookup nothing new is stored, whether it hits or misses
 looks_stands : (s : Setup) (log : List Write) (ss : List Switch) (fs : List ℕ) (y : Past) (t a c : ℕ) (w : WordPort)
     (tags lines : List ℕ) (b : Bool) → is_cached ss fs t ≡ true → is_present fs y.fills (line_of a) t ≡ b → t + 1 ≡ c
     → CacheAt s log fs y.fills c c w.c_walk w.c_alt tags lines
@@ -121,6 +125,7 @@ work_stands s log ss fs y t a c w p tags lines (last b m d e u now i k) = record
   cache = k;
 }
 
+-- so it is with an outstanding request and with none
 link_stands : (s : Setup) (log : List Write) (x : Stream) (q c : ℕ) (busy : Bool) (w : WordPort) (p : PortState)
     (tags lines : List ℕ) → Link s log x q c c busy w p tags lines
     → Stands s log x.fences (past (settings_of s) x q).fills c w tags lines
@@ -142,6 +147,7 @@ start_is : (fs : List ℕ) → starts fs ≡ walk_start fs
 start_is [] = refl
 start_is (f ∷ fs) = refl
 
+-- what a tag says of its place's last fill is the same in the invariant and in the law
 tag_is : (fs : List ℕ) (c : ℕ) (o : Option Fill) → tag_of fs c o ≡ tag_by fs c o
 tag_is fs c None = refl
 tag_is fs c (Some x) = refl
