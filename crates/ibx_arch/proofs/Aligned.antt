@@ -54,11 +54,13 @@ sound_expanded : (o : Option ℕ) → IfSome o IsInstruction → IfSome (option_
 sound_expanded None h = tt
 sound_expanded (Some w) h = decode_of-sound w h.0
 
+-- a long word is decoded as it is, a short one once it is expanded: either way its fields are in their ranges
 sound_by : (long : Bool) (word : ℕ) → word < 2 ^ 32
     → IfSome (if long then decode_of word else option_and_then decode_of (expand_of word)) IsWellFormed
 sound_by true word h = decode_of-sound word h
 sound_by false word h = sound_expanded (expand_of word) (expand_of-fits word)
 
+-- the instruction of a word, if it has one, has fields in their ranges
 pub instruction_of-sound : (word : ℕ) → word < 2 ^ 32 → IfSome (instruction_of word) IsWellFormed
 unfolding instruction_of
 instruction_of-sound word h = sound_by (is_long word) word h
@@ -69,9 +71,11 @@ instruction_of-sound word h = sound_by (is_long word) word h
 sum_even : (a b : ℕ) → a % 2 ≡ 0 → b % 2 ≡ 0 → (a + b) % 2 ^ 32 % 2 ≡ 0
 sum_even a b p q = omega arith
 
+-- a number whose bit 0 is cleared is even, as the target of JALR is
 half_even : (n : ℕ) → n / 2 * 2 % 2 ≡ 0
 half_even n = omega arith
 
+-- the base in mtvec is even, as its low byte is masked
 base_even : (mtvec : ℕ) → bit_and mtvec (2 ^ 32 - 1 - 0xff) % 2 ≡ 0
 base_even mtvec = and_mod mtvec (2 ^ 32 - 1 - 0xff) 1 ∙ omega (arith, and_le_r (mtvec % 2 ^ 1) 0)
 
@@ -87,10 +91,12 @@ target_even r cause false = base_even r.mtvec
 abbrev IsEven : CsrValues → Type 0
 IsEven v = v.mepc % 2 ≡ 0
 
+-- of two values of the CSRs with mepc even, either has it even
 if_even : (b : Bool) (v w : CsrValues) → IsEven v → IsEven w → IsEven (if b then v else w)
 if_even true v w p q = p
 if_even false v w p q = q
 
+-- a value put into any CSR leaves mepc even, as mepc itself keeps no bit 0
 put_even : (v : CsrValues) (c : Name) (w : ℕ) → IsEven v → IsEven (put_value v c w)
 unfolding put_value
 put_even v Mstatus w h = h
@@ -115,18 +121,22 @@ put_even v Minstreth w h = h
 put_even v Marchid w h = h
 put_even v Zero w h = h
 
+-- so it does where no CSR takes the value
 put_at_even : (v : CsrValues) (o : Option Name) (w : ℕ) → IsEven v → IsEven (put_at v w o)
 put_at_even v None w h = h
 put_at_even v (Some c) w h = put_even v c w h
 
+-- a write to any address of a CSR leaves mepc even
 write_even : (v : CsrValues) (a w : ℕ) → IsEven v → IsEven (csr_write v a w)
 unfolding csr_write
 write_even v a w h = put_at_even v (writable v.machine a) w h
 
+-- a cycle of the counters leaves mepc as it is
 tick_even : (v : CsrValues) (retired : Bool) (wrote : Option ℕ) → IsEven v → IsEven (csr_tick v retired wrote)
 unfolding csr_tick
 tick_even v retired wrote h = h
 
+-- a trap's entry or return leaves mepc even, whatever address it puts there
 trapped_even : (v : CsrValues) (r : TrapRegs) → IsEven (with_trap_regs v r)
 unfolding with_trap_regs
 trapped_even v r = kept_mepc-even r.mepc
@@ -147,21 +157,25 @@ record Ends (x : Executed) : Type 0 where
 plain_ends : (s : State) (rd value next : ℕ) → IsAligned s → next % 2 ≡ 0 → Ends (plain s rd value next)
 plain_ends s rd value next a n = record { done = n; mepc = tick_even s.csrs true None a.mepc }
 
+-- a trap ends so: it names no next address, and leaves mepc
 trap_ends : (s : State) (cause tval addr : ℕ) → IsAligned s → Ends (trap s cause tval addr)
 trap_ends s cause tval addr a = record { done = tt; mepc = tick_even s.csrs false None a.mepc }
 
+-- a load ends so: refused, unanswered or retired
 load_ends : (s : State) (op : LoadOp) (rd addr next : ℕ) (refused error : Option ℕ) → IsAligned s → next % 2 ≡ 0
     → Ends (load_with s op rd addr next refused error)
 load_ends s op rd addr next (Some at) error a n = trap_ends s 5 at addr a
 load_ends s op rd addr next None (Some at) a n = trap_ends s 5 at addr a
 load_ends s op rd addr next None None a n = record { done = n; mepc = tick_even s.csrs true None a.mepc }
 
+-- a store ends so: refused, unanswered or retired with its bytes written
 store_ends : (s : State) (size addr value next : ℕ) (refused error : Option ℕ) → IsAligned s → next % 2 ≡ 0
     → Ends (store_with s size addr value next refused error)
 store_ends s size addr value next (Some at) error a n = trap_ends s 7 at addr a
 store_ends s size addr value next None (Some at) a n = record { done = tt; mepc = tick_even s.csrs false None a.mepc }
 store_ends s size addr value next None None a n = record { done = n; mepc = tick_even s.csrs true None a.mepc }
 
+-- an access of a known CSR ends so: a read alone, an illegal write, and a write
 csr_by : (s : State) (op : CsrOp) (rd addr source word next old : ℕ) (w1 w2 : Bool) (ctl : Option ℕ) → IsAligned s
     → next % 2 ≡ 0 → Ends (
     if not w1 then plain s rd old next else
@@ -179,6 +193,7 @@ csr_by s op rd addr source word next old true true ctl a n = record {
       (tick_even s.csrs true (Some addr) a.mepc);
 }
 
+-- an access ends so whether its CSR is known or not
 csr_found : (s : State) (op : CsrOp) (rd src source addr word next : ℕ) (o : Option ℕ) → IsAligned s → next % 2 ≡ 0
     → Ends (csr_with s op rd src source addr word next o)
 csr_found s op rd src source addr word next None a n = trap_ends s 2 word 0 a
@@ -186,12 +201,14 @@ csr_found s op rd src source addr word next (Some old) a n =
     csr_by s op rd addr source word next old (writes op src) (csr_can_write s.csrs addr)
     (if is_control_at addr then Some (written op old source) else None) a n
 
+-- an access ends so, whatever its CSR reads
 csr_ends : (s : State) (op : CsrOp) (rd src source addr word next lines : ℕ) → IsAligned s → next % 2 ≡ 0
     → Ends (csr_access s op rd src source addr word next lines)
 unfolding csr_access
 csr_ends s op rd src source addr word next lines a n =
     csr_found s op rd src source addr word next (csr_read s.csrs addr lines) a n
 
+-- MRET retires to mepc, which is even, and is illegal in U mode
 return_by : (s : State) (word : ℕ) (machine : Bool) → IsAligned s
     → Ends (
     if not machine then illegal s word else
@@ -204,10 +221,12 @@ return_by s word true a =
     record { done = a.mepc; mepc = trapped_even (csr_tick s.csrs true None) (leave_of (trap_regs s.csrs)) }
 return_by s word false a = trap_ends s 2 word 0 a
 
+-- MRET ends so in the mode of the state
 return_ends : (s : State) (word : ℕ) → IsAligned s → Ends (return_from_trap s word)
 unfolding return_from_trap
 return_ends s word a = return_by s word s.csrs.machine a
 
+-- a WFI retires to the following address, or is illegal
 wait_ends : (s : State) (word next : ℕ) (may : Bool) → IsAligned s → next % 2 ≡ 0
     → Ends (if may then plain s 0 0 next else illegal s word)
 wait_ends s word next true a n = plain_ends s 0 0 next a n
@@ -270,11 +289,13 @@ ended_aligned pc regs cycle word ops after (Traps cause tval addr) d m = record 
   mepc = trapped_even after.csrs (enter_of (trap_regs after.csrs) pc cause false tval);
 }
 
+-- what an instruction did leads to an aligned state, where it ended so
 finished_aligned : (pc : ℕ) (regs : List ℕ) (cycle word : ℕ) (ops : Option (ℕ × ℕ)) (x : Executed) → Ends x
     → IsAligned (finished pc regs cycle word ops x).next
 unfolding finished
 finished_aligned pc regs cycle word ops x e = ended_aligned pc regs cycle word ops x x.done e.done e.mepc
 
+-- a decoded word leads to an aligned state, and so does one that fits no row
 decoded_aligned : (s : State) (cycle word length lines : ℕ) (o : Option Insn) → IsAligned s → IfSome o IsWellFormed
     → length % 2 ≡ 0 → IsAligned (decoded s cycle word length lines o).next
 decoded_aligned s cycle word length lines None a f e =
@@ -317,6 +338,7 @@ instruction_aligned s first second cycle lines h k a =
     (fetch_by s.pc ((s.pc + 2) % 2 ^ 32) first second (is_sound s.csrs s.memory.ram s.pc) (is_long first)
     (is_sound s.csrs s.memory.ram ((s.pc + 2) % 2 ^ 32)) h k)
 
+-- an interrupt leads to an aligned state from any state
 interrupted_aligned : (s : State) (number cycle : ℕ) → IsAligned (interrupted s number cycle).next
 unfolding interrupted
 interrupted_aligned s number cycle = record {
@@ -324,6 +346,7 @@ interrupted_aligned s number cycle = record {
   mepc = trapped_even (csr_tick s.csrs false None) (enter_of (trap_regs s.csrs) s.pc number true 0);
 }
 
+-- the counters' move to a cycle leaves the program counter and mepc even
 pub moved_aligned : (s : State) (cycle : ℕ) → IsAligned s → IsAligned (at_cycle s cycle)
 unfolding counters_after
 moved_aligned s cycle a = record { pc = a.pc; mepc = a.mepc }
@@ -335,6 +358,7 @@ stays_aligned lines s (Interrupt number) cycle p a = interrupted_aligned (at_cyc
 stays_aligned lines s (Parcels first second) cycle p a =
     instruction_aligned (at_cycle s cycle) first second cycle (lines cycle) p.0 p.1 (moved_aligned s cycle a)
 
+-- reset is aligned where the image's entry is even, as mepc begins as 0
 pub begins_aligned : BeginsAligned
 unfolding reset_state csr_reset
 begins_aligned image e = record { pc = e; mepc = refl }

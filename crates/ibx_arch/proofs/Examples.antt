@@ -93,10 +93,12 @@ early : seen (arch_step timer start (Interrupt 7) 3) ≡ None
 unfolding arch_step takes_choice pending_of csr_reset
 early = refl
 
+-- at cycle 5 it is too late: the line was high in cycle 3, and not in cycle 4
 late : seen (arch_step timer start (Interrupt 7) 5) ≡ None
 unfolding arch_step takes_choice pending_of csr_reset
 late = refl
 
+-- the timer's line makes interrupt 7 pending, and not interrupt 11
 other : seen (arch_step timer start (Interrupt 11) 4) ≡ None
 unfolding arch_step takes_choice pending_of csr_reset
 other = refl
@@ -126,6 +128,7 @@ gap = refl
 abbrev storing : ℕ → State
 storing addr = record start { regs = 0 ∷ 0 ∷ 0 ∷ 0 ∷ 0 ∷ 0 ∷ addr ∷ 0x12345678 ∷ replicate 24 0 }
 
+-- its writes are the two bytes at the end of RAM and the two past it, in this order
 crossing : step_writes (storing 0x1ffffe) (Parcels 0x2023 0x73)
     ≡ record { addr = 0x1ffffe; from = 0; to = 2; value = 0x12345678 }
     ∷ record { addr = 0x1ffffe; from = 2; to = 4; value = 0x12345678 } ∷ []
@@ -138,6 +141,7 @@ abbrev event_of : Option Stepped → Option Event
 event_of None = None
 event_of (Some s) = Some s.event
 
+-- its event is a store fault with the second portion's address in tval, and that of the access
 crossing_fault : event_of (arch_step timer (storing 0x1ffffe) (Parcels 0x2023 0x73) 4)
     ≡ Some (Trap 4 0x100084 0x00732023 7 0x200000 0x1ffffe)
 unfolding arch_step takes_choice step_with instruction fetch instruction_of decode_of expand_of allowed operands

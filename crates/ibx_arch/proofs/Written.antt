@@ -50,10 +50,12 @@ stored_is memory addr size value = by (has_second addr size && is_mapped memory.
     by true = refl
     by false = refl
 
+-- no writes leave memory as it is
 none_written : (memory : Memory) → memory ≡ after_writes memory []
 unfolding after_writes
 none_written memory = refl
 
+-- a store leaves memory with its writes made, by what refuses it and what doesn't answer
 store_by : (s : State) (size addr value next : ℕ) (refused error : Option ℕ)
     → (store_with s size addr value next refused error).memory
     ≡ after_writes s.memory (unless_refused refused (granted_writes s.memory.ram addr size (value % 256 ^ size)))
@@ -61,6 +63,7 @@ store_by s size addr value next (Some at) error = none_written s.memory
 store_by s size addr value next None (Some at) = stored_is s.memory addr size (value % 256 ^ size)
 store_by s size addr value next None None = stored_is s.memory addr size (value % 256 ^ size)
 
+-- so it does by the protection and the memory of the state
 store_is : (s : State) (size addr value next : ℕ)
     → (store s size addr value next).memory ≡ after_writes s.memory (store_writes s size addr value)
 unfolding store store_writes
@@ -69,13 +72,14 @@ store_is s size addr value next =
 
 -- ---- the others leave memory
 
--- one for each kind of instruction; a store alone writes
+-- a load leaves memory, whether it retires or traps
 load_by : (s : State) (op : LoadOp) (rd addr next : ℕ) (refused error : Option ℕ)
     → (load_with s op rd addr next refused error).memory ≡ s.memory
 load_by s op rd addr next (Some at) error = refl
 load_by s op rd addr next None (Some at) = refl
 load_by s op rd addr next None None = refl
 
+-- an access of a known CSR leaves memory: a read alone, an illegal write, and a write
 csr_by : (s : State) (op : CsrOp) (rd addr source word next old : ℕ) (w1 w2 : Bool) (ctl : Option ℕ)
     → (
     if not w1 then plain s rd old next else
@@ -90,6 +94,7 @@ csr_by s op rd addr source word next old false w2 ctl = refl
 csr_by s op rd addr source word next old true false ctl = refl
 csr_by s op rd addr source word next old true true ctl = refl
 
+-- an access leaves memory whether its CSR is known or not
 csr_found : (s : State) (op : CsrOp) (rd src source addr word next : ℕ) (o : Option ℕ)
     → (csr_with s op rd src source addr word next o).memory ≡ s.memory
 csr_found s op rd src source addr word next None = refl
@@ -97,12 +102,14 @@ csr_found s op rd src source addr word next (Some old) =
     csr_by s op rd addr source word next old (writes op src) (csr_can_write s.csrs addr)
     (if is_control_at addr then Some (written op old source) else None)
 
+-- an access leaves memory, whatever its CSR reads
 csr_leaves : (s : State) (op : CsrOp) (rd src source addr word next lines : ℕ)
     → (csr_access s op rd src source addr word next lines).memory ≡ s.memory
 unfolding csr_access
 csr_leaves s op rd src source addr word next lines =
     csr_found s op rd src source addr word next (csr_read s.csrs addr lines)
 
+-- MRET leaves memory, in either mode
 return_by : (s : State) (word : ℕ) (machine : Bool)
     → (
     if not machine then illegal s word else
@@ -115,6 +122,7 @@ return_by : (s : State) (word : ℕ) (machine : Bool)
 return_by s word true = refl
 return_by s word false = refl
 
+-- a WFI leaves memory, whether it may wait or is illegal
 wait_by : (s : State) (word next : ℕ) (may : Bool)
     → (if may then plain s 0 0 next else illegal s word).memory ≡ s.memory
 wait_by s word next true = refl
@@ -157,11 +165,13 @@ ended_memory : (pc : ℕ) (regs : List ℕ) (cycle word : ℕ) (ops : Option (�
 ended_memory pc regs cycle word ops after (Retires r) = refl
 ended_memory pc regs cycle word ops after (Traps cause tval addr) = refl
 
+-- the state after a step has the memory that the instruction left
 finished_memory : (pc : ℕ) (regs : List ℕ) (cycle word : ℕ) (ops : Option (ℕ × ℕ)) (x : Executed)
     → (finished pc regs cycle word ops x).next.memory ≡ x.memory
 unfolding finished
 finished_memory pc regs cycle word ops x = ended_memory pc regs cycle word ops x x.done
 
+-- a decoded word leaves memory with its writes made, and one that fits no row makes none
 decoded_writes : (s : State) (cycle word length lines : ℕ) (o : Option Insn)
     → (decoded s cycle word length lines o).next.memory ≡ after_writes s.memory (insn_writes s o)
 decoded_writes s cycle word length lines None =
@@ -170,6 +180,7 @@ decoded_writes s cycle word length lines (Some insn) =
     finished_memory s.pc s.regs cycle word (operands s insn) (execute s insn word length lines)
     ∙ row_writes s insn word length lines
 
+-- what was fetched leaves memory with its writes made, and an unsound parcel makes none
 fetch_writes : (s : State) (cycle lines : ℕ) (f : Fetched)
     → (after_fetch s cycle lines f).next.memory ≡ after_writes s.memory (fetched_writes s f)
 fetch_writes s cycle lines (Unsound addr) =
@@ -182,7 +193,7 @@ moved_store : (s : State) (cycle size addr value : ℕ)
 unfolding store_writes refused_at counters_after
 moved_store s cycle size addr value = refl
 
--- nor which instruction is fetched
+-- so an instruction has the same writes at each cycle
 moved_insn : (s : State) (cycle : ℕ) (o : Option Insn) → insn_writes (at_cycle s cycle) o ≡ insn_writes s o
 moved_insn s cycle None = refl
 moved_insn s cycle (Some (Lui rd imm)) = refl
@@ -203,10 +214,12 @@ moved_insn s cycle (Some Ebreak) = refl
 moved_insn s cycle (Some Mret) = refl
 moved_insn s cycle (Some Wfi) = refl
 
+-- and so has what was fetched
 moved_fetched : (s : State) (cycle : ℕ) (f : Fetched) → fetched_writes (at_cycle s cycle) f ≡ fetched_writes s f
 moved_fetched s cycle (Unsound addr) = refl
 moved_fetched s cycle (Instruction word length) = moved_insn s cycle (instruction_of word)
 
+-- the counters' move changes nothing that is fetched
 moved_fetch : (s : State) (cycle first second : ℕ) → fetch (at_cycle s cycle) first second ≡ fetch s first second
 unfolding fetch counters_after
 moved_fetch s cycle first second = refl

@@ -22,6 +22,7 @@ rests = call no_request
 abbrev calls : List Call
 calls = asks ∷ asks ∷ asks ∷ rests ∷ asks ∷ asks ∷ asks ∷ asks ∷ rests ∷ rests ∷ []
 
+-- these calls are polite: a request stays until its grant, and the next one waits for the answer
 polite : IsPolite false false (trace_of waits calls)
 unfolding IsPolite trace port_moves
 polite = (
@@ -46,18 +47,22 @@ polite = (
   ),
 )
 
+-- the three loads are issued at cycles 0, 4 and 5
 issued : issues 0 false (trace_of waits calls) ≡ 0 ∷ 4 ∷ 5 ∷ []
 unfolding issues trace port_moves
 issued = refl
 
+-- they are granted at 2, 4 and 7, the third by the first entry again
 grant_cycles : granted_in 0 (trace_of waits calls) ≡ 2 ∷ 4 ∷ 7 ∷ []
 unfolding granted_in trace port_moves
 grant_cycles = refl
 
+-- they are answered at 4, 5 and 9
 answer_cycles : answered_in 0 (trace_of waits calls) ≡ 4 ∷ 5 ∷ 9 ∷ []
 unfolding answered_in trace port_moves
 answer_cycles = refl
 
+-- the rule gives the same cycles from the three issues alone
 times : (grant_times waits 0 (0 ∷ 4 ∷ 5 ∷ []) ≡ 2 ∷ 4 ∷ 7 ∷ []) × (answer_times waits 0 (0 ∷ 4 ∷ 5 ∷ []) ≡ 4 ∷ 5 ∷ 9 ∷
     [])
 unfolding grant_times answer_times grant_time answer_time waits_of

@@ -28,13 +28,16 @@ call false due false over p err word more e = refl
 call false due true false p err word more e = refl
 call false due true true p err word more e = refl
 
+-- an answer in front of the first of two lists is in front of both
 in_front_moves : (b : Bool) (a : Rsp) (xs ys : List Rsp) → in_front_if b a (xs ++ ys) ≡ in_front_if b a xs ++ ys
 in_front_moves true a xs ys = refl
 in_front_moves false a xs ys = refl
 
+-- the open transaction's answer, if there is one, comes before all later ones
 opened : (p : PortState) (xs : List Rsp) → unanswered p ++ xs ≡ in_front_if p.busy (answer_with p.err p.word) xs
 opened p xs = sym (in_front_moves p.busy (answer_with p.err p.word) [] xs)
 
+-- from any port on, the open answer and those of the grants are those shown and the one that is open then
 in_order : (calls : List Call) (p : PortState) → unanswered p ++ granted_answers calls p ≡ answers_shown calls p ++
     unanswered (port_after calls p)
 unfolding granted_answers answers_shown port_after
@@ -47,5 +50,6 @@ in_order (c ∷ cs) p =
     ∙ ap (λ (xs : List Rsp). in_front_if (answers p) (answer_with p.err p.word) xs) (in_order cs next)
     ∙ in_front_moves (answers p) (answer_with p.err p.word) (answers_shown cs next) (unanswered (port_after cs next))
 
+-- from a new port on, the grants' answers are those shown and the one still open
 pub answers_in_order : (waits : List Wait) (calls : List Call) → AnswersInOrder waits calls
 answers_in_order waits calls = in_order calls (new_port waits)

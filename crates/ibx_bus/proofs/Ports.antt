@@ -14,6 +14,7 @@ unfoldable pub place_of : List Wait → ℕ → ℕ
 place_of [] n = 0
 place_of (w ∷ ws) n = n % length (w ∷ ws)
 
+-- the place after that of transaction n is that of the next one, around the list's end too
 place_next : (ws : List Wait) (n : ℕ) → next_place ws (place_of ws n) ≡ place_of ws (suc n)
 unfolding place_of
 place_next [] n = refl
@@ -28,15 +29,18 @@ place_next (w ∷ ws) n =
           rw (le-ltb (n % l + 1) l le) (sym (ap (λ k. k % l) all ∙ mod_self l) ∙ next)
     ]
 
+-- the waits at the place of transaction n are those of transaction n
 wait_place : (ws : List Wait) (n : ℕ) → wait_at ws (place_of ws n) ≡ waits_of ws n
 unfolding place_of waits_of
 wait_place [] n = refl
 wait_place (w ∷ ws) n = refl
 
+-- a port that has this list and stands at the place of transaction n has its waits
 pub wait_is : (ws waits : List Wait) (n place : ℕ) → waits ≡ ws → place ≡ place_of ws n → wait_at waits place ≡
     waits_of ws n
 wait_is ws waits n place same at = rw (same, at) (wait_place ws n)
 
+-- such a port goes on to the place of transaction n + 1
 next_is : (ws waits : List Wait) (n place : ℕ) → waits ≡ ws → place ≡ place_of ws n → next_place waits place ≡ place_of
     ws (suc n)
 next_is ws waits n place same at = rw (same, at) (place_next ws n)
@@ -76,15 +80,19 @@ pub record Free (ws : List Wait) (n : ℕ) (p : PortState) : Type 0 where
   pub waited : p.waited ≡ 0
   pub place : p.place ≡ place_of ws n
 
+-- a port at which no transaction is open is free
 pub idle_free : (ws : List Wait) (n : ℕ) (p : PortState) → Idle ws n p → Free ws n p
 idle_free ws n p i = record { list = i.list; blocked = rw i.busy; waited = i.waited; place = i.place }
 
+-- a port at which no transaction is open shows no answer
 pub idle_silent : (ws : List Wait) (n : ℕ) (p : PortState) → Idle ws n p → answers p ≡ false
 idle_silent ws n p i = rw i.busy
 
+-- a port at which a request waits for its grant shows no answer
 pub waiting_silent : (ws : List Wait) (m x c : ℕ) (p : PortState) → Waiting ws m x c p → answers p ≡ false
 waiting_silent ws m x c p w = rw w.busy
 
+-- a port is free again in the cycle in which its transaction answers
 pub granted_free : (ws : List Wait) (m x : ℕ) (err : Bool) (word c : ℕ) (p : PortState) → Granted ws m x err word c p →
     p.left ≡ 0 → Free ws (suc m) p
 granted_free ws m x err word c p g e = record {
@@ -95,14 +103,17 @@ granted_free ws m x err word c p g e = record {
       g.place;
 }
 
+-- a granted transaction with no cycles left answers
 pub granted_answers : (ws : List Wait) (m x : ℕ) (err : Bool) (word c : ℕ) (p : PortState) → Granted ws m x err word c
     p → p.left ≡ 0 → answers p ≡ true
 granted_answers ws m x err word c p g e = rw (g.busy, e)
 
+-- a granted transaction with cycles left doesn't answer yet
 pub granted_silent : (ws : List Wait) (m x : ℕ) (err : Bool) (word c : ℕ) (p : PortState) → Granted ws m x err word c p
     → p.left ≢ 0 → answers p ≡ false
 granted_silent ws m x err word c p g ne = rw (g.busy, ne_eqb p.left 0 ne)
 
+-- without a request there is no grant
 pub no_grant : (p : PortState) → grants false p ≡ false
 no_grant p = and_right (not (is_blocked p)) false refl
 
@@ -168,12 +179,14 @@ requested ws m x err word c p list blocked waited place late false over =
       });
     })
 
+-- a request at a free port is issued, and is granted at once in its time or begins to wait
 pub free_starts : (ws : List Wait) (n : ℕ) (err : Bool) (word c : ℕ) (p : PortState) → Free ws n p → Grants ws n c err
     word c p ⊎ Waits ws n c err word c p
 unfolding grant_time
 free_starts ws n err word c p f = requested ws n c err word c p f.list f.blocked (omega (arith, f.waited)) f.place
     (omega arith) (is_wait_over p) refl
 
+-- a held request is granted in its time, counted from its issue, or waits on
 pub waiting_goes : (ws : List Wait) (m x : ℕ) (err : Bool) (word c : ℕ) (p : PortState) → Waiting ws m x c p → Grants
     ws m x err word c p ⊎ Waits ws m x err word c p
 waiting_goes ws m x err word c p w = requested ws m x err word c p w.list (rw w.busy) w.waited w.place w.late

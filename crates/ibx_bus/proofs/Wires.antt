@@ -19,12 +19,15 @@ is_code = record {
       arith;
 }
 
+-- the wires without a request fit the port
 pub nothing_fits : IsRequest no_request
 nothing_fits = record { aligned = omega arith; enables = omega arith; word = omega arith }
 
+-- the wires of a fetch of an aligned word fit the port
 pub fetch_fits : (address : ℕ) → address % 4 ≡ 0 → IsRequest (fetch_wires address)
 fetch_fits address aligned = record { aligned = aligned; enables = omega arith; word = omega arith }
 
+-- a lane carries a byte of the value, or 0 where the portion holds none
 lane_byte-lt : (w : Access) (second : Bool) (k : ℕ) → lane_byte w.addr w.size w.value second k < 256
 lane_byte-lt w second k = elim (is_held w.addr w.size second k) as
     (λ b. cond b (word_byte w.value (place_of second k - w.addr % 4)) 0 < 256) [
@@ -33,10 +36,12 @@ lane_byte-lt w second k = elim (is_held w.addr w.size second k) as
           arith
     ]
 
+-- four lanes of bytes make a word of 32 bits
 lanes-lt : (f : ℕ → ℕ) → ((k : ℕ) → f k < 256) → bytes_number f 4 < 2 ^ 32
 unfolding bytes_number
 lanes-lt f h = omega (arith, h 0, h 1, h 2, h 3)
 
+-- the wires carry a codeword of 39 bits for a store, and 0 for a load
 store_word-lt : (store : Bool) (lanes : ℕ) → lanes < 2 ^ 32 → cond store (encode_of 32 7 lanes) 0 < 2 ^ 39
 store_word-lt true lanes fits = encode_of-lt 32 7 lanes is_code fits
 store_word-lt false lanes fits = omega arith

@@ -44,16 +44,18 @@ operand_words Rem a b fa fb =
     record { first = omega (arith, magnitude-le a fa); second = omega (arith, magnitude-le b fb) }
 operand_words Remu a b fa fb = record { first = fa; second = fb }
 
--- the calculation that begins has numbers that fit the fields, and as many cycles left as it costs
+-- the bits of the multiplier that a cycle takes are a number of six bits
 pace_small : (mul : MulKind) → pace_of mul < 64
 pace_small Single = omega arith
 pace_small Fast = omega arith
 pace_small Slow = omega arith
 
+-- a division of two words that begins has numbers that fit the fields
 division_sized : (o : Operands) (cost : ℕ) → AreWords o → cost < 64 → IsSized (begun_division o cost)
 unfolding begun_division
 division_sized o cost words lt = record { rest = words.second; left = lt; pace = omega arith }
 
+-- so has a product, made at once or in its cycles
 product_sized : (o : Operands) (cost : ℕ) (mul : MulKind) → AreWords o → cost < 64 → IsSized (begun_product o cost mul)
 unfolding begun_product multiplied
 product_sized o cost mul words lt =
@@ -72,6 +74,7 @@ product_sized o cost mul words lt =
       | false ↦ record { rest = words.second; left = lt; pace = pace_small mul }
     ]
 
+-- whatever operation begins, its numbers fit the fields
 pub begun_sized : (op : MdOp) (a b cost : ℕ) (mul : MulKind) → a < 2 ^ 32 → b < 2 ^ 32 → cost < 64
     → IsSized (begun (is_division op) op a b cost mul)
 begun_sized op a b cost mul fa fb lt =
@@ -80,6 +83,7 @@ begun_sized op a b cost mul fa fb lt =
       | false ↦ product_sized (operands_of op a b) cost mul (operand_words op a b fa fb) lt
     ]
 
+-- a calculation begins with as many cycles left as it costs
 begun-left : (op : MdOp) (a b cost : ℕ) (mul : MulKind) → (begun (is_division op) op a b cost mul).left ≡ cost
 unfolding begun_division begun_product multiplied
 begun-left op a b cost mul =
@@ -102,22 +106,25 @@ begun-left op a b cost mul =
 
 -- ---- costs
 
--- no operation takes 64 cycles or more
+-- the low word of a product takes fewer than 64 cycles
 low_small : (mul : MulKind) (b : ℕ) (fixed : Bool) → low_cost mul b fixed < 64
 low_small Single b fixed = omega arith
 low_small Fast b fixed = omega arith
 low_small Slow b true = omega arith
 low_small Slow b false = omega arith
 
+-- the high word of a product takes fewer than 64 cycles
 high_small : (mul : MulKind) → high_cost mul < 64
 high_small Single = omega arith
 high_small Fast = omega arith
 high_small Slow = omega arith
 
+-- a division takes 1 or 37 cycles, fewer than 64
 division_small : (b : ℕ) (fixed : Bool) → division_cost b fixed < 64
 division_small b true = omega arith
 division_small b false = elim (eqb b 0) as (λ e. cond e 1 37 < 64) [ true ↦ omega arith | false ↦ omega arith ]
 
+-- no operation takes 64 cycles or more, so that the cycles left fit their field
 pub cost_small : (op : MdOp) (b : ℕ) (fixed : Bool) (mul : MulKind) → md_cost_of op b fixed mul < 64
 unfolding md_cost_of
 cost_small Mul b fixed mul = low_small mul b fixed
@@ -131,12 +138,13 @@ cost_small Remu b fixed mul = division_small b fixed
 
 -- ---- the answer
 
--- the cycles of a multiplication are enough for all bits of the multiplier, for the high and for the low word
+-- the cycles of a multiplication for the high word are enough for all bits of the multiplier
 high_enough : (n : ℕ) (mul : MulKind) → n < 2 ^ 32 → n < 2 ^ (pace_of mul * high_cost mul)
 high_enough n Single h = h
 high_enough n Fast h = omega arith
 high_enough n Slow h = h
 
+-- so are those for the low word, also where they are only as many as the multiplier has significant bits
 low_enough : (b : ℕ) (fixed : Bool) (mul : MulKind) → b < 2 ^ 32 → 0 < low_cost mul b fixed
     → b < 2 ^ (pace_of mul * low_cost mul b fixed)
 low_enough b fixed Single h some = absurd (omega (arith, some))
@@ -202,18 +210,19 @@ unfolding start_of
 seen-start op a b fixed mul fa fb =
     seen-packed _ (begun_sized op a b (md_cost_of op b fixed mul) mul fa fb (cost_small op b fixed mul))
 
--- the cycles left are those of the calculation, and at a start all that the operation costs
+-- the cycles left are those of the calculation that the fields hold
 pub left_of-seen : (m : MulDiv) → left_of m ≡ (seen m).left
 unfolding seen
 left_of-seen m = refl
 
+-- after a start as many cycles are left as the operation costs
 pub left_of-start : (op : MdOp) (a b : ℕ) (fixed : Bool) (mul : MulKind) → a < 2 ^ 32 → b < 2 ^ 32
     → left_of (start_of op a b fixed mul) ≡ md_cost_of op b fixed mul
 left_of-start op a b fixed mul fa fb =
     left_of-seen (start_of op a b fixed mul) ∙ ap (λ (w : Work). w.left) (seen-start op a b fixed mul fa fb)
     ∙ begun-left op a b (md_cost_of op b fixed mul) mul
 
--- a start finishes with the value, each cycle brings it one nearer and leaves the value
+-- a start finishes with the operation's value when its cycles have passed
 pub start_finishes : (op : MdOp) (a b : ℕ) (fixed : Bool) (mul : MulKind) → a < 2 ^ 32 → b < 2 ^ 32
     → Finishes (start_of op a b fixed mul) (left_of (start_of op a b fixed mul)) (md_value op a b)
 unfolding Finishes
@@ -224,6 +233,7 @@ start_finishes op a b fixed mul fa fb =
     ∙ answers op a b fixed mul fa fb
     )
 
+-- a cycle brings the result one cycle nearer
 pub left_of-tick : (m : MulDiv) → left_of m ≢ 0 → left_of (tick_of m) + 1 ≡ left_of m
 unfolding step_of
 left_of-tick m ne =
@@ -231,6 +241,7 @@ left_of-tick m ne =
     left_of-seen (tick_of m) ∙ ap (λ (w : Work). w.left) (seen-tick m) in
     omega (arith, after, left_of-seen m, ne)
 
+-- a cycle leaves the value with which the calculation finishes
 pub tick_finishes : (m : MulDiv) (value : ℕ) → left_of m ≢ 0 → Finishes m (left_of m) value
     → Finishes (tick_of m) (left_of (tick_of m)) value
 unfolding Finishes ticks

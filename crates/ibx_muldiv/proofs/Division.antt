@@ -16,21 +16,24 @@ next_bit a n = sym (div-add-mod' (a / 2 ^ n) 2) ∙ ap (λ (x : ℕ). x * 2 + a 
 
 -- the word of h above the k bits of q
 module _ (h q m k : ℕ) (whole : k + m ≡ 31) (small : q < 2 ^ k) where
-  -- without and with its top bits: what is shifted in, and what is left
+  -- from bit 31 on it has the bits of h from m on: what is shifted in
   high_bit : (h * 2 ^ k + q) / 2 ^ 31 ≡ h / 2 ^ m
   high_bit =
       subst (λ (x : ℕ). (h * 2 ^ k + q) / 2 ^ x ≡ h / 2 ^ m) whole
       (sym (shr-shr (h * 2 ^ k + q) k m) ∙ ap (λ (x : ℕ). x / 2 ^ m) (shr_high h k q small))
 
+  -- below bit 31 it has the m lowest bits of h above q: what is left
   low_part : (h * 2 ^ k + q) % 2 ^ 31 ≡ h % 2 ^ m * 2 ^ k + q
   low_part =
       let turned : m + k ≡ 31 = omega arith in
       subst (λ (x : ℕ). (h * 2 ^ k + q) % 2 ^ x ≡ h % 2 ^ m * 2 ^ k + q) turned
       (mod-pow-add (h * 2 ^ k + q) m k ∙ rw (shr_high h k q small, mod_low h k q small) refl)
 
+-- the highest of the n + 1 bits that are left is bit n of the dividend
 top_bit : (a n : ℕ) → a % 2 ^ (1 + n) / 2 ^ n ≡ a / 2 ^ n % 2
 top_bit a n = field_of a 1 n
 
+-- without that bit, the n bits below it are left
 rest_bits : (a n : ℕ) → a % 2 ^ (1 + n) % 2 ^ n ≡ a % 2 ^ n
 rest_bits a n = ap (λ (x : ℕ). x % 2 ^ n) (mod-pow-add a 1 n)
     ∙ mod_low (a / 2 ^ n % 2 ^ 1) n (a % 2 ^ n) (mod_below a (2 ^ n) (pow_pos n))
@@ -46,6 +49,7 @@ step_taken w d lt =
 counted : Work → Work
 counted w = record w { left = w.left - 1 }
 
+-- each of the last 5 cycles of a division only counts
 step_waits : (w : Work) → w.divides ≡ true → w.left ≤ 5 → step_of w ≡ counted w
 unfolding step_of division_step counted
 step_waits w d le =
@@ -161,6 +165,7 @@ words_by_zero high a r l q b ab none taken ones low =
       | false ↦ rw test (omega (arith, ones, low))
     ]
 
+-- by a number other than 0 they are the true remainder and quotient, which both fit a word
 words_by_some : (high : Bool) (a r l q b : ℕ) → b ≢ 0 → b < 2 ^ 32 → a / 1 ≡ q * b + r → r < b → q < 2 ^ 32
     → l ≡ a % 1 * 2 ^ 32 + q → cond high r l % 2 ^ 32 ≡ part_of high a b
 words_by_some high a r l q b some bb taken below small low =

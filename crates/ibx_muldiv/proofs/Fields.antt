@@ -14,6 +14,7 @@ pub flag_small : (b : Bool) → from_bool b ≤ 1
 flag_small true = omega arith
 flag_small false = omega arith
 
+-- a flag that is kept as a bit is read back as it was
 flag-eqb : (b : Bool) → eqb (from_bool b) 1 ≡ b
 flag-eqb true = refl
 flag-eqb false = refl
@@ -29,26 +30,32 @@ module _ (r l p d h n : ℕ) (hr : r < 2 ^ 32) (hl : l < 64) (hp : p < 64) (hd :
   word : ℕ
   word = r + l * 4294967296 + p * 274877906944 + d * 17592186044416 + h * 35184372088832 + n * 70368744177664
 
+  -- bits 31:0 give back the multiplier's rest or the divisor
   rest_of : word % 4294967296 ≡ r
   unfolding word
   rest_of = omega arith
 
+  -- bits 37:32 give back the cycles left
   left_part : word / 4294967296 % 64 ≡ l
   unfolding word
   left_part = omega arith
 
+  -- bits 43:38 give back the bits that a cycle takes
   pace_part : word / 274877906944 % 64 ≡ p
   unfolding word
   pace_part = omega arith
 
+  -- bit 44 gives back whether it is a division
   divides_part : word / 17592186044416 % 2 ≡ d
   unfolding word
   divides_part = omega arith
 
+  -- bit 45 gives back whether the high word is wanted
   high_part : word / 35184372088832 % 2 ≡ h
   unfolding word
   high_part = omega arith
 
+  -- bit 46 gives back whether the answer is negated
   negate_part : word / 70368744177664 % 2 ≡ n
   unfolding word
   negate_part = omega arith
@@ -83,6 +90,7 @@ pub sized_fields : (m : MulDiv) → IsSized (seen m)
 unfolding seen
 sized_fields m = record { rest = omega arith; left = omega arith; pace = omega arith }
 
+-- a cycle keeps the widths, as none of the three numbers grows in it
 pub sized_step : (w : Work) → IsSized w → IsSized (step_of w)
 unfolding step_of division_step multiplied divided
 sized_step w s =
@@ -106,7 +114,7 @@ sized_step w s =
       | false ↦ record { rest = omega (arith, s.rest, below); left = omega (arith, s.left); pace = s.pace }
     ]
 
--- a cycle of the fields is a step of the calculation that they hold, and so are n cycles
+-- a cycle of the fields is a step of the calculation that they hold
 pub seen-tick : (m : MulDiv) → seen (tick_of m) ≡ step_of (seen m)
 unfolding tick_of
 seen-tick m = seen-packed (step_of (seen m)) (sized_step (seen m) (sized_fields m))

@@ -35,6 +35,7 @@ moved_twice m i j =
     mul-mod_first (m * 2 ^ i) (2 ^ j) (2 ^ 64)
     ∙ ap (λ (t : ℕ). t % 2 ^ 64) (rw (pow-add 2 i j) (mul_assoc m (2 ^ i) (2 ^ j)))
 
+-- taking i bits and then j is taking i + j at once
 pub multiplied-multiplied : (i j : ℕ) (w : Work) → multiplied j (multiplied i w) ≡ multiplied (i + j) w
 unfolding multiplied
 multiplied-multiplied i j w = λ t. record w {
@@ -43,7 +44,7 @@ multiplied-multiplied i j w = λ t. record w {
   rest = shr-shr w.rest i j t;
 }
 
--- from no bits to i, one by one
+-- taking no bits leaves a calculation as it is
 pub none_taken : (w : Work) → w.sum < 2 ^ 64 → w.multiplicand < 2 ^ 64 → w ≡ multiplied 0 w
 unfolding multiplied
 none_taken w s m =
@@ -52,6 +53,7 @@ none_taken w s m =
     let all : w.rest / 1 ≡ w.rest = omega arith in
     sym (λ t. record w { sum = nothing t; multiplicand = still t; rest = all t })
 
+-- taking one bit more after i is taking i + 1
 pub one_more : (i : ℕ) (w v u : Work) → u ≡ multiplied 1 v → v ≡ multiplied i w → u ≡ multiplied (i + 1) w
 one_more i w v u e f = e ∙ ap (multiplied 1) f ∙ multiplied-multiplied i 1 w
 
@@ -62,6 +64,7 @@ pub ruleset taking = (none_taken, one_more)
 pub bit_taken : (s m r : ℕ) → r % 2 ≢ 0 → (s + m) % 18446744073709551616 ≡ (s + m * (r % 2)) % 18446744073709551616
 bit_taken s m r ne = let one : r % 2 ≡ 1 = omega (arith, ne) in rw one (omega arith)
 
+-- a bit that is clear leaves a sum of 64 bits as it is
 pub bit_left : (s m r : ℕ) → s < 2 ^ 64 → r % 2 ≡ 0 → s ≡ (s + m * (r % 2)) % 18446744073709551616
 bit_left s m r lt none = rw none (omega arith)
 

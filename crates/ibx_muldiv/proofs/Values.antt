@@ -15,10 +15,12 @@ use Rattle.ibx_muldiv.proofs.Division.{part_of}
 not_below : (m : ℕ) → ltb m 0 ≡ false
 not_below m = le-ltb m 0 (omega arith)
 
+-- 2 ^ 32 less a magnitude is the word of the negative number
 neg_word : (n : ℕ) → n ≤ 2 ^ 32 → (2 ^ 32 - n) % 2 ^ 32 ≡ cast_unsigned w32 (neg_ℤ (pos n))
 neg_word zero h = refl
 neg_word (suc n) h = omega arith
 
+-- 2 ^ 64 less a magnitude is the double word of the negative number
 neg_double : (n : ℕ) → n ≤ 2 ^ 64 → (2 ^ 64 - n) % 2 ^ 64 ≡ cast_unsigned w64 (neg_ℤ (pos n))
 neg_double zero h = refl
 neg_double (suc n) h = omega arith
@@ -58,11 +60,12 @@ and_false : (b : Bool) → b && false ≡ false
 and_false true = refl
 and_false false = refl
 
+-- a condition with one that holds is that condition
 and_true : (b : Bool) → b && true ≡ b
 and_true true = refl
 and_true false = refl
 
--- a word and its signed number
+-- the signed number of a word is at most 2 ^ 31 from 0
 pub magnitude-le : (a : ℕ) → a < 2 ^ 32 → magnitude a ≤ 2 ^ 31
 magnitude-le a h =
     elim (cases_lt a (2 ^ 31)) [
@@ -78,6 +81,7 @@ magnitude-zero a h =
       | inr le ↦ rw (le-ltb a (2 ^ 31) le) (ne_eqb a 0 (omega arith) ∙ sym (eqb-suc-zero (2 ^ 32 - suc a)))
     ]
 
+-- a word's magnitude, negated by its sign, is the word again
 magnitude-back : (a : ℕ) → a < 2 ^ 32 → negated 32 (sign a) (magnitude a) ≡ a
 magnitude-back a h =
     elim (cases_lt a (2 ^ 31)) [
@@ -100,6 +104,7 @@ signed_quotient a b fa fb =
           ∙ quotient_some (signed a) (signed b) small
     ])
 
+-- the remainder has the sign of the dividend, and by 0 it is the dividend
 pub signed_remainder : (a b : ℕ) → a < 2 ^ 32 → b < 2 ^ 32
     → negated 32 (sign a) (part_of true (magnitude a) (magnitude b))
     ≡ cond (eqb b 0) a (cast_unsigned w32 (int_rem (signed a) (signed b)))

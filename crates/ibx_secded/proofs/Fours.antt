@@ -28,6 +28,7 @@ xor_pairs : (a b c d : ℕ) → bit_xor (bit_xor a b) (bit_xor c d) ≡ bit_xor 
 xor_pairs a b c d = sym (xor_assoc (bit_xor a b) c d) ∙ ap (λ (x : ℕ). bit_xor x d) (xor_swap a b c) ∙ xor_assoc
     (bit_xor a c) b d
 
+-- the plain check of an XOR is the XOR of the plain checks
 pub checks-xor : (h n v w : ℕ) → checks h n (bit_xor v w) ≡ bit_xor (checks h n v) (checks h n w)
 unfolding checks
 checks-xor h zero v w = sym (xor_self 0)
@@ -42,6 +43,7 @@ checks-xor h (suc i) v w =
 
 -- ---- a payload is its fours
 
+-- the lowest four bits of a number above a place join the rest below it
 regrouped : (a b m r : ℕ) → (a * 16 + b) * m + r ≡ a * (m * 16) + (b * m + r)
 regrouped a b m r = omega arith
 
@@ -92,6 +94,7 @@ unfoldable pub by_list : List ℕ → ℕ → ℕ → ℕ
 by_list cs zero v = 0
 by_list cs (suc i) v = bit_xor (by_list cs i v) (bit_at v i * get_or cs i 0)
 
+-- the plain check is the one by the list of the height's columns
 by_list-is : (h n v : ℕ) → checks h n v ≡ by_list (columns h) n v
 unfolding checks column by_list
 by_list-is h zero v = refl

@@ -22,12 +22,14 @@ unfoldable all_below : ℕ → List ℕ → Bool
 all_below n [] = true
 all_below n (x ∷ xs) = nat_lt x n && all_below n xs
 
+-- each entry of a list of numbers below n is below n, and so is the 0 past its end
 all_below_at : (n : ℕ) (xs : List ℕ) → all_below n xs ≡ true → 0 < n → (i : ℕ) → get_or xs i 0 < n
 unfolding all_below
 all_below_at n [] e h i = h
 all_below_at n (x ∷ xs) e h zero = ltb-true x n (and_parts (nat_lt x n) (all_below n xs) e).0
 all_below_at n (x ∷ xs) e h (suc i) = all_below_at n xs (and_parts (nat_lt x n) (all_below n xs) e).1 h i
 
+-- at each height the columns have no more bits than the height
 columns_fit : (h : ℕ) → 4 ≤ h → h ≤ 8 → all_below (2 ^ h) (columns h) ≡ true
 unfolding all_below
 columns_fit =
@@ -35,15 +37,18 @@ columns_fit =
     (ap (all_below 16) columns_4) (ap (all_below 32) columns_5) (ap (all_below 64) columns_6)
     (ap (all_below 128) columns_7) (ap (all_below 256) columns_8)
 
+-- a column has no more bits than there are check bits
 pub column-lt : (h : ℕ) → 4 ≤ h → h ≤ 8 → (i : ℕ) → column h i < 2 ^ h
 unfolding column
 column-lt h l m i = all_below_at (2 ^ h) (columns h) (columns_fit h l m) (pow_pos h) i
 
+-- a number that a bit selects, or else 0, stays below the number's bound
 bit_times : (b c m : ℕ) → b < 2 → c < m → b * c < m
 bit_times zero c m hb hc = omega arith
 bit_times (suc zero) c m hb hc = omega arith
 bit_times (suc (suc b)) c m hb hc = absurd (omega arith)
 
+-- a plain check has no more bits than the columns
 pub checks-lt : (h : ℕ) → 4 ≤ h → h ≤ 8 → (n v : ℕ) → checks h n v < 2 ^ h
 unfolding checks
 checks-lt h l m zero v = pow_pos h
@@ -51,13 +56,16 @@ checks-lt h l m (suc i) v =
     xor_lt h (checks h i v) (bit_at v i * column h i) (checks-lt h l m i v) (bit_times (bit_at v i) (column h i)
     (2 ^ h) (bit_at-lt v i) (column-lt h l m i))
 
+-- the constant has no more bits than there are check bits
 pub constant-lt : (h : ℕ) → constant h < 2 ^ h
 constant-lt h = mod_below 170 (2 ^ h) (pow_pos h)
 
+-- the plain check of no bits is 0, as the loop begins
 pub checks-none : (h v : ℕ) → checks h 0 v ≡ 0
 unfolding checks
 checks-none h v = refl
 
+-- one bit more joins its column to the check by XOR, where it is set
 pub checks-more : (h i v : ℕ) → checks h (i + 1) v ≡ bit_xor (checks h i v) (bit_at v i * column h i)
 unfolding checks
 checks-more h i v = rw add-one refl
@@ -65,17 +73,20 @@ checks-more h i v = rw add-one refl
 -- ---- words of a payload and stored check bits
 
 module _ (k h : ℕ) where
+  -- the syndrome of a payload below stored check bits, from these two parts
   pub syndrome_of-cat : (s v : ℕ) → v < 2 ^ k → syndrome_of k h (s * 2 ^ k + v) ≡ bit_xor (bit_xor s (constant h))
       (checks h k v)
   unfolding syndrome_of
   syndrome_of-cat s v hv = rw (shr_high s k v hv, mod_low s k v hv) refl
 
+  -- an encoded payload has no wrong check bit
   pub syndrome_of-encode : (v : ℕ) → v < 2 ^ k → syndrome_of k h (encode_of k h v) ≡ 0
   unfolding encode_of
   syndrome_of-encode v hv =
       syndrome_of-cat (bit_xor (checks h k v) (constant h)) v hv
       ∙ ap (λ (x : ℕ). bit_xor x (checks h k v)) (xor_cancel (checks h k v) (constant h)) ∙ xor_self (checks h k v)
 
+  -- a codeword gives back the payload that was encoded
   pub payload_of-encode : (v : ℕ) → v < 2 ^ k → payload_of k (encode_of k h v) ≡ v
   unfolding encode_of
   payload_of-encode v hv = mod_low (bit_xor (checks h k v) (constant h)) k v hv
@@ -95,6 +106,7 @@ module _ (k h : ℕ) where
   unfolding syndrome_of
   codeword w e = xor_zero (bit_xor (w / 2 ^ k) (constant h)) (checks h k (w % 2 ^ k)) e
 
+  -- a codeword has the syndrome 0
   pub syndrome_of-codeword : (w : ℕ) → IsCodeword k h w → syndrome_of k h w ≡ 0
   unfolding syndrome_of
   syndrome_of-codeword w e = rw e (xor_self (checks h k (w % 2 ^ k)))
@@ -110,6 +122,7 @@ module _ (k h : ℕ) where
 
 -- ---- one bit flipped
 
+-- toggling a bit joins its column by XOR once more, which puts it in or takes it out
 toggled : (b c : ℕ) → b < 2 → (b + 1) % 2 * c ≡ bit_xor (b * c) c
 toggled zero c h = let e : 0 * c ≡ 0 = omega arith in rw e (omega (arith, xor_zero_l c))
 toggled (suc zero) c h =
@@ -118,6 +131,7 @@ toggled (suc zero) c h =
     none ∙ sym (xor_self c) ∙ ap (λ (x : ℕ). bit_xor x c) (sym one)
 toggled (suc (suc b)) c h = absurd (omega arith)
 
+-- a flip above the bits that are checked leaves the check
 checks-flip_above : (h n v b : ℕ) → n ≤ b → checks h n (bit_xor v (2 ^ b)) ≡ checks h n v
 unfolding checks
 checks-flip_above h zero v b le = refl
@@ -126,6 +140,7 @@ checks-flip_above h (suc i) v b le =
     (arith, bit_at-pow_other b i (omega arith), bit_at-lt v i) in
     rw (checks-flip_above h i v b (omega arith), same) refl
 
+-- a flip of a checked bit changes the check by that bit's column
 pub checks-flip : (h n v b : ℕ) → b < n → checks h n (bit_xor v (2 ^ b)) ≡ bit_xor (checks h n v) (column h b)
 unfolding checks
 checks-flip h zero v b lt = absurd (omega arith)
@@ -160,12 +175,14 @@ unfolding is_new
 no_power zero xs = true
 no_power (suc k) xs = is_new (2 ^ k) xs && no_power k xs
 
+-- a number that is new to a list is none of its entries
 is_new_at : (n : ℕ) (xs : List ℕ) → is_new n xs ≡ true → (i : ℕ) → i < length xs → n ≢ get_or xs i 0
 unfolding is_new
 is_new_at n [] e i lt = absurd (omega arith)
 is_new_at n (x ∷ xs) e zero lt = eqb-false n x (not-true (eqb n x) (and_parts (not (eqb n x)) (is_new n xs) e).0)
 is_new_at n (x ∷ xs) e (suc i) lt = is_new_at n xs (and_parts (not (eqb n x)) (is_new n xs) e).1 i (omega arith)
 
+-- an earlier and a later entry of a distinct list differ
 distinct_at : (xs : List ℕ) → distinct xs ≡ true → (i j : ℕ) → i < j → j < length xs → get_or xs i 0 ≢ get_or xs j 0
 unfolding distinct
 distinct_at [] e i j lt below = absurd (omega arith)
@@ -175,6 +192,7 @@ distinct_at (x ∷ xs) e zero (suc j) lt below = is_new_at x xs (and_parts (is_n
 distinct_at (x ∷ xs) e (suc i) (suc j) lt below = distinct_at xs (and_parts (is_new x xs) (distinct xs) e).1 i j
     (omega arith) (omega arith)
 
+-- a list that passes this test has none of the first n powers of two as an entry
 no_power_at : (n : ℕ) (xs : List ℕ) → no_power n xs ≡ true → (k : ℕ) → k < n → (i : ℕ) → i < length xs → 2 ^ k ≢ get_or
     xs i 0
 unfolding no_power
@@ -190,6 +208,7 @@ no_power_at (suc n) xs e k lt i below =
 sound : ℕ → List ℕ → Bool
 sound h xs = distinct xs && (is_new 0 xs && no_power h xs)
 
+-- at each height the columns pass these tests, by their computed lists
 columns_sound : (h : ℕ) → 4 ≤ h → h ≤ 8 → sound h (columns h) ≡ true
 unfolding sound distinct is_new no_power
 columns_sound =
@@ -198,25 +217,31 @@ columns_sound =
     (ap (sound 8) columns_8)
 
 module _ (h : ℕ) (l : 4 ≤ h) (m : h ≤ 8) where
+  -- the tests in two: the columns are distinct, and what is tested of each one alone
   parts : (distinct (columns h) ≡ true) × ((is_new 0 (columns h) && no_power h (columns h)) ≡ true)
   unfolding sound
   parts = and_parts (distinct (columns h)) (is_new 0 (columns h) && no_power h (columns h)) (columns_sound h l m)
 
+  -- the two tests of each column alone: none is 0, and none is a power of two
   others : (is_new 0 (columns h) ≡ true) × (no_power h (columns h) ≡ true)
   others = and_parts (is_new 0 (columns h)) (no_power h (columns h)) parts.1
 
+  -- no column is 0, so that one flipped payload bit is told
   pub column-nonzero : (i : ℕ) → i < 2 ^ (h - 1) - h → column h i ≢ 0
   unfolding column
   column-nonzero i lt e = is_new_at 0 (columns h) others.0 i (omega (arith, length-columns h l m)) (sym e)
 
+  -- no column is a single check bit: a payload bit and a check bit never look alike
   pub column-power : (k i : ℕ) → k < h → i < 2 ^ (h - 1) - h → 2 ^ k ≢ column h i
   unfolding column
   column-power k i below lt = no_power_at h (columns h) others.1 k below i (omega (arith, length-columns h l m))
 
+  -- a column differs from each later one
   column-apart_below : (i j : ℕ) → i < j → j < 2 ^ (h - 1) - h → column h i ≢ column h j
   unfolding column
   column-apart_below i j lt below = distinct_at (columns h) parts.0 i j lt (omega (arith, length-columns h l m))
 
+  -- two payload bits have two columns
   pub column-apart : (i j : ℕ) → i ≢ j → i < 2 ^ (h - 1) - h → j < 2 ^ (h - 1) - h → column h i ≢ column h j
   column-apart i j ne bi bj e =
       elim (cases_order i j) [
@@ -225,9 +250,11 @@ module _ (h : ℕ) (l : 4 ≤ h) (m : h ≤ 8) where
         | inr (inr gt) ↦ column-apart_below j i gt bi (sym e)
       ]
 
+-- a power of two differs from each higher one
 pow-apart_below : (i j : ℕ) → i < j → 2 ^ i ≢ 2 ^ j
 pow-apart_below i j lt e = absurd (omega (arith, pow_below i j lt))
 
+-- two check bits are two powers of two
 pow-apart : (i j : ℕ) → i ≢ j → 2 ^ i ≢ 2 ^ j
 pow-apart i j ne e =
     elim (cases_order i j) [
@@ -238,17 +265,21 @@ pow-apart i j ne e =
 
 -- ---- what a flip does to the syndrome
 
+-- what flipping bit b does to the syndrome: a payload bit's column, or the check bit itself
 effect : ℕ → ℕ → ℕ → ℕ
 effect k h b = cond (ltb b k) (column h b) (2 ^ (b - k))
 
+-- a payload bit acts by its column
 effect-low : (k h b : ℕ) → b < k → effect k h b ≡ column h b
 unfolding effect
 effect-low k h b lt = rw (lt-ltb b k lt) refl
 
+-- a check bit acts on itself alone
 effect-high : (k h b : ℕ) → k ≤ b → effect k h b ≡ 2 ^ (b - k)
 unfolding effect
 effect-high k h b le = rw (le-ltb b k le) refl
 
+-- a flip of any bit changes the syndrome by that bit's effect
 syndrome_of-flip : (k h w b : ℕ) → syndrome_of k h (bit_xor w (2 ^ b)) ≡ bit_xor (syndrome_of k h w) (effect k h b)
 unfolding syndrome_of
 syndrome_of-flip k h w b =
@@ -274,10 +305,12 @@ syndrome_of-flip k h w b =
           ∙ xor_swap (bit_xor (w / 2 ^ k) (constant h)) (2 ^ (b - k)) (checks h k (w % 2 ^ k)))
     ]
 
+-- a flipped payload bit changes the syndrome by its column
 pub payload_flip : (k h w b : ℕ) → b < k → syndrome_of k h (bit_xor w (2 ^ b)) ≡ bit_xor (syndrome_of k h w)
     (column h b)
 payload_flip k h w b lt = syndrome_of-flip k h w b ∙ ap (λ (x : ℕ). bit_xor (syndrome_of k h w) x) (effect-low k h b lt)
 
+-- a flipped check bit changes that bit of the syndrome and no other
 pub check_flip : (k h w b : ℕ) → syndrome_of k h (bit_xor w (2 ^ (k + b))) ≡ bit_xor (syndrome_of k h w) (2 ^ b)
 check_flip k h w b =
     let place : k + b - k ≡ b = omega arith in
@@ -286,6 +319,7 @@ check_flip k h w b =
     place)
 
 module _ (k h : ℕ) (code : IsCode k h) where
+  -- each bit of a word has an effect when it is flipped
   effect-nonzero : (b : ℕ) → b < k + h → effect k h b ≢ 0
   effect-nonzero b lt e =
       elim (cases_lt b k) [
@@ -294,6 +328,7 @@ module _ (k h : ℕ) (code : IsCode k h) where
         | inr high ↦ absurd (omega (arith, pow_pos (b - k), sym (effect-high k h b high) ∙ e))
       ]
 
+  -- no two bits of a word have the same effect
   effect-apart : (a b : ℕ) → a < k + h → b < k + h → a ≢ b → effect k h a ≢ effect k h b
   effect-apart a b la lb ne e =
       elim (cases_lt a k) [
@@ -328,28 +363,34 @@ module _ (k h : ℕ) (code : IsCode k h) where
 
 -- ---- what the code computes
 
+-- check and constant joined by XOR, above the payload, make its codeword
 pub encoded : (k h v check const w : ℕ) → check ≡ checks h k v → const ≡ constant h → w ≡ bit_xor check const * 2 ^ k +
     v → w ≡ encode_of k h v
 unfolding encode_of
 encoded k h v check const w a b e = e ∙ rw (a, b) refl
 
+-- stored check bits, constant and the payload's check joined by XOR are the syndrome
 pub told : (k h w check const p : ℕ) → p ≡ payload_of k w → check ≡ checks h k p → const ≡ constant h → bit_xor
     (bit_xor (w / 2 ^ k) const) check ≡ syndrome_of k h w
 unfolding syndrome_of
 told k h w check const p a b e = rw (b, e, a) refl
 
+-- the payload of a word is what stands below its stored check bits
 pub payload_of-cat : (k s v : ℕ) → v < 2 ^ k → payload_of k (s * 2 ^ k + v) ≡ v
 payload_of-cat k s v hv = mod_low s k v hv
 
+-- the old syndrome joined into the new check bits, above the new payload, makes the rewritten word
 pub rewritten : (k h old x v check const w : ℕ) → x ≡ syndrome_of k h old → check ≡ checks h k v → const ≡ constant h →
     w ≡ bit_xor (bit_xor x const) check * 2 ^ k + v → w ≡ rewrite_of k h old v
 unfolding rewrite_of
 rewritten k h old x v check const w d a b e = e ∙ rw (d, a, b) refl
 
+-- a rewritten word has the old syndrome, so that what was wrong stays told
 pub syndrome_of-rewrite_of : (k h old v : ℕ) → v < 2 ^ k → syndrome_of k h (rewrite_of k h old v) ≡ syndrome_of k h old
 unfolding rewrite_of
 syndrome_of-rewrite_of k h old v hv = syndrome_of-rewrite k h (syndrome_of k h old) v hv
 
+-- a rewritten word has the new payload
 pub payload_of-rewrite_of : (k h old v : ℕ) → v < 2 ^ k → payload_of k (rewrite_of k h old v) ≡ v
 unfolding rewrite_of
 payload_of-rewrite_of k h old v hv = payload_of-cat k (bit_xor (bit_xor (syndrome_of k h old) (constant h))
@@ -357,6 +398,7 @@ payload_of-rewrite_of k h old v hv = payload_of-cat k (bit_xor (bit_xor (syndrom
 
 -- ---- the sizes of what the code computes
 
+-- a syndrome has no more bits than there are check bits
 pub syndrome_of-lt : (k h w : ℕ) → IsCode k h → w < 2 ^ (k + h) → syndrome_of k h w < 2 ^ h
 unfolding syndrome_of
 syndrome_of-lt k h w code fits =
@@ -364,12 +406,14 @@ syndrome_of-lt k h w code fits =
     xor_lt h (bit_xor (w / 2 ^ k) (constant h)) (checks h k (w % 2 ^ k)) (xor_lt h (w / 2 ^ k) (constant h) above
     (constant-lt h)) (checks-lt h code.least code.most k (w % 2 ^ k))
 
+-- a codeword has its payload bits and its check bits, and none above them
 pub encode_of-lt : (k h v : ℕ) → IsCode k h → v < 2 ^ k → encode_of k h v < 2 ^ (k + h)
 unfolding encode_of
 encode_of-lt k h v code fits =
     cat_lt (bit_xor (checks h k v) (constant h)) v k h (xor_lt h (checks h k v) (constant h)
     (checks-lt h code.least code.most k v) (constant-lt h)) fits
 
+-- a rewritten word has no more bits than a codeword
 pub rewrite_of-lt : (k h old v : ℕ) → IsCode k h → old < 2 ^ (k + h) → v < 2 ^ k → rewrite_of k h old v < 2 ^ (k + h)
 unfolding rewrite_of
 rewrite_of-lt k h old v code old_fits fits =

@@ -29,12 +29,14 @@ unfolding carried_out
 decoded_alike s cycle lines word length None = refl
 decoded_alike s cycle lines word length (Some insn) = refl
 
+-- what was fetched is carried out as in the architecture, an unsound parcel too
 fetched_alike : (s : State) (cycle lines : ℕ) (f : Fetched)
     → carried_out s cycle lines (prepared_from f) ≡ after_fetch s cycle lines f
 unfolding carried_out prepared_from
 fetched_alike s cycle lines (Unsound addr) = refl
 fetched_alike s cycle lines (Instruction word length) = decoded_alike s cycle lines word length (instruction_of word)
 
+-- two parcels, fetched before the counters move, are carried out as the architecture's instruction after it
 pub carried_alike : (s : State) (cycle lines first second : ℕ)
     → carried_out (at_cycle s cycle) cycle lines (prepared_from (fetch s first second))
     ≡ instruction (at_cycle s cycle) first second cycle lines
@@ -44,6 +46,7 @@ carried_alike s cycle lines first second =
     (sym (fetch_moved s cycle first second))
     ∙ fetched_alike (at_cycle s cycle) cycle lines (fetch (at_cycle s cycle) first second)
 
+-- so they are carried out as the step with these parcels as its choice
 pub carried_step : (s : State) (cycle lines first second : ℕ)
     → carried_out (at_cycle s cycle) cycle lines (prepared_from (fetch s first second))
     ≡ step_with (λ _. lines) s (Parcels first second) cycle
@@ -56,6 +59,7 @@ wait_word : (csrs : CsrValues) (word length : ℕ) (o : Option Insn)
 wait_word csrs word length None = refl
 wait_word csrs word length (Some insn) = refl
 
+-- preparing what was fetched leaves whether it is a WFI that waits
 wait_fetched : (csrs : CsrValues) (f : Fetched) → is_wait_of csrs (prepared_from f) ≡ is_wait_at csrs f
 unfolding prepared_from
 wait_fetched csrs (Unsound addr) = refl
@@ -79,20 +83,23 @@ step_by s cycle waits e =
     ap (λ (b : Bool). if b then None else Some (instruction (at_cycle s cycle) (first_at s) (second_at s) cycle 0))
     (sym (wait_fetched s.csrs (fetch s (first_at s) (second_at s))) ∙ e)
 
+-- a machine has no step where memory holds a WFI that may wait
 pub waits_for_ever : (s : State) (cycle : ℕ)
     → is_wait_of s.csrs (prepared_from (fetch s (first_at s) (second_at s))) ≡ true → present_step s cycle ≡ None
 waits_for_ever s cycle = step_by s cycle true
 
+-- everywhere else its step carries out the parcels that memory holds
 pub takes_step : (s : State) (cycle : ℕ)
     → is_wait_of s.csrs (prepared_from (fetch s (first_at s) (second_at s))) ≡ false
     → present_step s cycle ≡ Some (carried_out (at_cycle s cycle) cycle 0
     (prepared_from (fetch s (first_at s) (second_at s))))
 takes_step s cycle e = step_by s cycle false e ∙ ap Some (sym (carried_alike s cycle 0 (first_at s) (second_at s)))
 
--- a step's event and the state after it
+-- with no step there is no event, and the state stays
 pub steps_none : (s : State) (step : Option Stepped) → step ≡ None → Steps s step None s
 steps_none s step e = subst (λ (o : Option Stepped). Steps s o None s) (sym e) (refl, refl)
 
+-- where there is a step, the machine's event and its next state are those that it gives
 pub steps_some : (s next : State) (step : Option Stepped) (event : Event)
     → step ≡ Some (record { event = event; next = next }) → Steps s step (Some event) next
 steps_some s next step event e = subst (λ (o : Option Stepped). Steps s o (Some event) next) (sym e) (refl, refl)
@@ -115,6 +122,7 @@ pub step_waits : (s : State) (cycle first second : ℕ) (prepared : Prepared) �
     → is_wait_of s.csrs prepared ≡ true → present_step s cycle ≡ None
 step_waits s cycle first second prepared p e = waits_for_ever s cycle (sym (ap (is_wait_of s.csrs) (held p)) ∙ e)
 
+-- where no WFI waits, what a machine carries out of prepared parcels is its step
 pub step_goes : (s : State) (cycle first second : ℕ) (prepared : Prepared) (stepped : Stepped)
     → IsPrepared s first second prepared → is_wait_of s.csrs prepared ≡ false
     → stepped ≡ carried_out (at_cycle s cycle) cycle 0 prepared → present_step s cycle ≡ Some stepped
@@ -122,7 +130,7 @@ step_goes s cycle first second prepared stepped p e f =
     takes_step s cycle (sym (ap (is_wait_of s.csrs) (held p)) ∙ e)
     ∙ ap Some (sym (f ∙ ap (carried_out (at_cycle s cycle) cycle 0) (held p)))
 
--- it keeps the program counter even
+-- what is carried out keeps the program counter and mepc even
 pub carried_aligned : (s : State) (cycle lines first second : ℕ) (prepared : Prepared) (stepped : Stepped)
     → prepared ≡ prepared_from (fetch s first second) → first < 2 ^ 16 → second < 2 ^ 16 → IsAligned s
     → stepped ≡ carried_out (at_cycle s cycle) cycle lines prepared → IsAligned stepped.next

@@ -47,33 +47,38 @@ ended_cycle : (pc : ℕ) (regs : List ℕ) (cycle word : ℕ) (ops : Option (ℕ
 ended_cycle pc regs cycle word ops after (Retires r) = refl
 ended_cycle pc regs cycle word ops after (Traps cause tval addr) = refl
 
--- so it is up to the step of a machine, whichever way it was taken
+-- so has the event that is made from what an instruction did
 finished_cycle : (pc : ℕ) (regs : List ℕ) (cycle word : ℕ) (ops : Option (ℕ × ℕ)) (x : Executed)
     → event_cycle (finished pc regs cycle word ops x).event ≡ cycle
 unfolding finished
 finished_cycle pc regs cycle word ops x = ended_cycle pc regs cycle word ops x x.done
 
+-- the event of a decoded word has its cycle, also where the word is illegal
 decoded_cycle : (s : State) (cycle word length lines : ℕ) (o : Option Insn)
     → event_cycle (decoded s cycle word length lines o).event ≡ cycle
 decoded_cycle s cycle word length lines None = finished_cycle s.pc s.regs cycle word None (illegal s word)
 decoded_cycle s cycle word length lines (Some insn) =
     finished_cycle s.pc s.regs cycle word (operands s insn) (execute s insn word length lines)
 
+-- the event of what was fetched has its cycle, also where a parcel is unsound
 fetched_cycle : (s : State) (cycle lines : ℕ) (f : Fetched) → event_cycle (after_fetch s cycle lines f).event ≡ cycle
 fetched_cycle s cycle lines (Unsound addr) = finished_cycle s.pc s.regs cycle 0 None (trap s 1 addr 0)
 fetched_cycle s cycle lines (Instruction word length) = decoded_cycle s cycle word length lines (instruction_of word)
 
+-- the event of two parcels has the cycle in which they are an instruction
 instruction_cycle : (s : State) (first second cycle lines : ℕ)
     → event_cycle (instruction s first second cycle lines).event ≡ cycle
 unfolding instruction
 instruction_cycle s first second cycle lines = fetched_cycle s cycle lines (fetch s first second)
 
+-- where no WFI waits, the step that is taken is the one that was made, with its cycle
 unless_waits : (waits : Bool) (step stepped : Stepped) (cycle : ℕ) → event_cycle step.event ≡ cycle
     → (if waits then None else Some step) ≡ Some stepped → event_cycle stepped.event ≡ cycle
 unless_waits true step stepped cycle h e = absurd cc
 unless_waits false step stepped cycle h e =
     ap (λ (x : Stepped). event_cycle x.event) (sym (same_Some step stepped e)) ∙ h
 
+-- the event of a machine's step has the cycle of the step
 pub present_cycle : (s : State) (cycle : ℕ) (stepped : Stepped) → present_step s cycle ≡ Some stepped
     → event_cycle stepped.event ≡ cycle
 unfolding present_step arch_step takes_choice step_with
