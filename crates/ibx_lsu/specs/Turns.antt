@@ -110,3 +110,7 @@ next_at AwaitSecond first want rsp granted = after_second (reply_of rsp) first
 -- the fields after the cycle
 unfoldable pub next_of : Lsu → Access → Rsp → Bool → Lsu
 next_of u want rsp granted = next_at (stage_of u.ls_state) u.ls_first want rsp granted
+
+-- the fields once the request that was driven in the cycle before is granted after all
+abbrev pub granted_of : Lsu → Lsu
+granted_of u = record u { ls_state = if u.ls_state == 1 then 2 else if u.ls_state == 4 then 5 else u.ls_state }
