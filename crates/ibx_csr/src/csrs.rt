@@ -233,6 +233,14 @@ impl Csrs {
         }
     }
 
+    /// Whether `write` could write an address in this mode. Nothing changes.
+    #[tactic(auto, unfolding(crate::specs::Values::csr_can_write, crate::specs::Fields::values))]
+    pub fn can_write(&self, addr: u16) -> bool
+        ensures { result ≡ csr_can_write (values self.now) addr }
+    {
+        (addr >> 10) & 3 != 3 && self.priv_ && csr_at(addr).is_some()
+    }
+
     // Writes a register, with its complement where it has one.
     #[tactic(auto, unfolding(crate::specs::Fields::put_of))]
     fn put(&mut self, register: Csr, value: u32)
@@ -291,6 +299,7 @@ impl Csrs {
     ///
     /// Bit 0 of `mcountinhibit` stops `mcycle`, and bit 2 `minstret` (Privileged ISA 1.12, 3.1.10 and 3.1.12).
     /// A counter stands still in a cycle in which one of its halves is written (our own rule).
+    #[inline(always)]
     #[tactic(auto, unfolding(crate::specs::Fields::tick_of, crate::specs::Fields::values, crate::specs::Values::csr_tick))]
     pub fn tick(&mut self, retired: bool, wrote: Option<u16>)
         ensures fields { self.new ≡ tick_of self.old retired wrote }
@@ -323,6 +332,7 @@ impl Csrs {
 
     /// Whether loads and stores are M's: in M mode, except where MPRV is 1 and MPP isn't M
     /// (Privileged ISA 1.12, 3.1.6.3).
+    #[inline(always)]
     #[tactic(auto, unfolding(crate::specs::Fields::values))]
     pub fn access_machine(&self) -> bool
         ensures { result ≡ access_machine (values self.now) }
@@ -331,6 +341,7 @@ impl Csrs {
     }
 
     /// Whether a WFI isn't illegal: in M mode, and in U mode where TW is 0 (Privileged ISA 1.12, 3.1.6.5).
+    #[inline(always)]
     #[tactic(auto, unfolding(crate::specs::Fields::values))]
     pub fn may_wait(&self) -> bool
         ensures { result ≡ may_wait (values self.now) }
@@ -339,6 +350,7 @@ impl Csrs {
     }
 
     /// Whether a complemented copy isn't the complement of its register (our own check).
+    #[inline(always)]
     pub fn glitch(&self) -> bool
         ensures fields { result ≡ glitch_of self.now }
         ensures sound { (result ≡ false) ↔ Complemented self.now }
@@ -347,6 +359,7 @@ impl Csrs {
     }
 
     /// The registers that a trap reads.
+    #[inline(always)]
     #[tactic(auto, unfolding(crate::specs::Fields::values))]
     pub fn regs(&self) -> TrapRegs
         ensures { result ≡ trap_regs (values self.now) }
@@ -440,6 +453,7 @@ fn at_reset(register: Csr) -> u32
 }
 
 // A count after a cycle in which it stands still or counts.
+#[inline(always)]
 fn counted(count: u64, stands: bool) -> u64
     ensures { result ≡ count_after count stands }
 {

@@ -41,6 +41,7 @@ fn each_register_keeps_its_bits(rt: HostRuntime) {
     for (name, addr, reset, ones, zeros) in table {
         let mut csrs = Csrs::reset(0x0010_0082);
         assert_eq!(rt; csrs.read(addr, 0x888), Some(reset), "at {name}");
+        assert!(rt; csrs.can_write(addr), "at {name}");
         assert!(rt; csrs.write(addr, ONES), "at {name}");
         assert_eq!(rt; csrs.read(addr, 0x888), Some(ones), "at {name}");
         assert!(rt; csrs.write(addr, 0), "at {name}");
@@ -48,6 +49,7 @@ fn each_register_keeps_its_bits(rt: HostRuntime) {
         assert!(rt; !csrs.glitch(), "at {name}");
         csrs.priv_ = false;
         assert_eq!(rt; csrs.read(addr, 0x888), None, "at {name} from U");
+        assert!(rt; !csrs.can_write(addr), "at {name} from U");
         assert!(rt; !csrs.write(addr, ONES), "at {name} from U");
     }
 }
@@ -85,6 +87,7 @@ fn other_addresses_refuse_a_write(rt: HostRuntime) {
         let before = Csrs::reset(0x0010_0080);
         let mut csrs = before;
         assert_eq!(rt; csrs.read(addr, ONES), value, "at {name}");
+        assert!(rt; !csrs.can_write(addr), "at {name}");
         assert!(rt; !csrs.write(addr, ONES), "at {name}");
         assert_eq!(rt; csrs, before, "at {name}");
     }
