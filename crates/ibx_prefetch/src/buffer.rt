@@ -83,7 +83,9 @@ impl Prefetch {
         ensures second { ready_of result.second ≡ slice_get (offered ans.now None self.now) 1 }
         ensures order { ShowsInOrder ans.now self.now result }
     {
-        self.answered(ans, None).held_head()
+        let mut heard = *self;
+        heard.hear(ans, None);
+        heard.held_head()
     }
 
     /// The byte address of the word request of this cycle, a multiple of 4, if there is one. `redirect` is the byte
@@ -93,111 +95,112 @@ impl Prefetch {
         ensures rule { Issues ans.now redirect self.now result }
         ensures aligned { IfSome result (λ addr. addr % 4 ≡ 0) }
     {
-        self.answered(ans, redirect).next_request()
+        let mut heard = *self;
+        heard.hear(ans, redirect);
+        heard.next_request()
     }
 
     /// Ends a cycle with the answer `ans`, in which the first `taken`, 0 to 2, of the parcels that are ready leave the
     /// buffer. In the cycle of a redirect none is ready.
+    #[tactic(auto, unfolding(crate::specs::Buffer::prefetch_next))]
     pub fn advance(&mut self, ans: &WordAns, redirect: Option<u32>, taken: u8)
         ensures fields { self.new ≡ prefetch_next ans.now redirect taken self.old }
         ensures within { IsWithin self.old → IsWithin self.new }
         ensures queue { self.old.buf_count ≤ 3 → taken ≤ 2 → parcels_of self.new ≡ drop taken (offered ans.now redirect self.old) }
         ensures order { KeepsOrder ans.now redirect taken self.old self.new }
     {
-        *self = self.next(ans, redirect, taken);
+        self.hear(ans, redirect);
+        self.end(taken);
     }
 
-    #[tactic(auto, unfolding(crate::specs::Buffer::prefetch_next))]
-    fn next(&self, ans: &WordAns, redirect: Option<u32>, taken: u8) -> Prefetch
-        ensures fields { result ≡ prefetch_next ans.now redirect taken self.now }
-        ensures within { IsWithin self.now → IsWithin result }
-    {
-        let filled = self.answered(ans, redirect);
-        filled.asking(filled.next_request()).without(taken)
-    }
-
-    // After the redirect and the answer of a cycle.
-    fn answered(&self, ans: &WordAns, redirect: Option<u32>) -> Prefetch
-        ensures fields { result ≡ fetch_after_answer ans.now redirect self.now }
-        ensures within { IsWithin self.now → IsWithin result }
+    /// The first half of a cycle, in place: its redirect to the byte address `redirect`, if there is one, and its answer
+    /// `ans`.
+    #[inline(always)]
+    pub fn hear(&mut self, ans: &WordAns, redirect: Option<u32>)
+        ensures fields { self.new ≡ fetch_after_answer ans.now redirect self.old }
+        ensures within { IsWithin self.old → IsWithin self.new }
     {
         let dropped = self.f_drop || redirect.is_some();
-        self.turned(redirect).received(ans, dropped)
+        self.turn(redirect);
+        self.receive(ans, dropped);
+    }
+
+    /// The second half of a cycle, in place: its word request goes out, and the first `taken`, 0 to 2, of the parcels that
+    /// are held leave the buffer.
+    #[inline(always)]
+    pub fn end(&mut self, taken: u8)
+        ensures fields { self.new ≡ took taken (requested (request_of self.old) self.old) }
+        ensures within { IsWithin self.old → IsWithin self.new }
+    {
+        let request = self.next_request();
+        self.ask(request);
+        self.take(taken);
     }
 
     // The word that is outstanding is of before the redirect.
+    #[inline(always)]
     #[tactic(auto, unfolding(crate::specs::Buffer::turned))]
-    fn turned(&self, redirect: Option<u32>) -> Prefetch
-        ensures fields { result ≡ turned redirect self.now }
-        ensures within { IsWithin self.now → IsWithin result }
+    fn turn(&mut self, redirect: Option<u32>)
+        ensures fields { self.new ≡ turned redirect self.old }
+        ensures within { IsWithin self.old → IsWithin self.new }
     {
-        match redirect {
-            None => *self,
-            Some(target) => Prefetch {
-                f_fresh: true,
-                f_drop: self.f_busy,
-                buf0: 0,
-                buf1: 0,
-                buf2: 0,
-                buf_count: 0,
-                head_pc: target,
-                ..*self
-            },
+        if let Some(target) = redirect {
+            self.f_fresh = true;
+            self.f_drop = self.f_busy;
+            self.buf0 = 0;
+            self.buf1 = 0;
+            self.buf2 = 0;
+            self.buf_count = 0;
+            self.head_pc = target;
         }
     }
 
+    // A mark without an outstanding request is lost.
+    #[inline(always)]
     #[tactic(auto, unfolding(crate::specs::Buffer::received))]
-    fn received(&self, ans: &WordAns, dropped: bool) -> Prefetch
-        ensures fields { result ≡ received ans.now.valid dropped (entry_of ans.now.err ans.now.word) self.now }
-        ensures within { IsWithin self.now → IsWithin result }
+    fn receive(&mut self, ans: &WordAns, dropped: bool)
+        ensures fields { self.new ≡ received ans.now.valid dropped (entry_of ans.now.err ans.now.word) self.old }
+        ensures within { IsWithin self.old → IsWithin self.new }
     {
         if !ans.valid {
-            Prefetch {
-                f_drop: self.f_drop && self.f_busy,
-                ..*self
-            }
+            self.f_drop = self.f_drop && self.f_busy;
         } else if dropped {
-            Prefetch {
-                f_busy: false,
-                f_drop: false,
-                ..*self
-            }
+            self.f_busy = false;
+            self.f_drop = false;
         } else {
-            let idle = Prefetch {
-                f_busy: false,
-                ..*self
-            };
-            idle.pushed(entry(ans.err, ans.word))
+            self.f_busy = false;
+            self.push(entry(ans.err, ans.word));
         }
     }
 
+    // A word more than three is lost.
+    #[inline(always)]
     #[tactic(auto, unfolding(crate::specs::Buffer::pushed))]
-    fn pushed(&self, entry: u64) -> Prefetch
-        ensures fields { result ≡ pushed self.now.buf_count entry self.now }
-        ensures within { entry < 2 ^ 33 → IsWithin self.now → IsWithin result }
+    fn push(&mut self, entry: u64)
+        ensures fields { self.new ≡ pushed self.old.buf_count entry self.old }
+        ensures within { entry < 2 ^ 33 → IsWithin self.old → IsWithin self.new }
     {
         match self.buf_count {
-            0 => Prefetch {
-                buf0: entry,
-                buf_count: 1,
-                ..*self
-            },
-            1 => Prefetch {
-                buf1: entry,
-                buf_count: 2,
-                ..*self
-            },
-            2 => Prefetch {
-                buf2: entry,
-                buf_count: 3,
-                ..*self
-            },
-            _ => *self,
+            0 => {
+                self.buf0 = entry;
+                self.buf_count = 1;
+            }
+            1 => {
+                self.buf1 = entry;
+                self.buf_count = 2;
+            }
+            2 => {
+                self.buf2 = entry;
+                self.buf_count = 3;
+            }
+            _ => {}
         }
     }
 
+    /// The next two parcels of the words that are held: after `hear`, those of its cycle.
+    #[inline(always)]
     #[tactic(auto, unfolding(crate::specs::Buffer::head_of))]
-    fn held_head(&self) -> Head
+    pub fn held_head(&self) -> Head
         ensures { result ≡ head_of self.now }
     {
         let half = (self.head_pc / 2 % 2) as u8;
@@ -208,6 +211,7 @@ impl Prefetch {
     }
 
     // Half `half` of the words that are held, counted from the low half of the oldest.
+    #[inline(always)]
     fn parcel(&self, half: u8) -> Parcel
         ensures { result ≡ held_parcel self.now half }
     {
@@ -219,6 +223,7 @@ impl Prefetch {
         }
     }
 
+    #[inline(always)]
     fn word(&self, place: u8) -> u64
         ensures { result ≡ held_word self.now place }
     {
@@ -229,8 +234,10 @@ impl Prefetch {
         }
     }
 
+    /// The byte address of the word that is requested, a multiple of 4, if one is: after `hear`, that of its cycle.
+    #[inline(always)]
     #[tactic(auto, unfolding(crate::specs::Buffer::request_of))]
-    fn next_request(&self) -> Option<u32>
+    pub fn next_request(&self) -> Option<u32>
         ensures request { result ≡ request_of self.now }
         ensures aligned { IfSome result (λ addr. addr % 4 ≡ 0) }
     {
@@ -243,52 +250,46 @@ impl Prefetch {
         }
     }
 
+    #[inline(always)]
     #[tactic(auto, unfolding(crate::specs::Buffer::requested))]
-    fn asking(&self, request: Option<u32>) -> Prefetch
-        ensures fields { result ≡ requested request self.now }
-        ensures within { IsWithin self.now → IsWithin result }
+    fn ask(&mut self, request: Option<u32>)
+        ensures fields { self.new ≡ requested request self.old }
+        ensures within { IsWithin self.old → IsWithin self.new }
     {
-        match request {
-            None => *self,
-            Some(addr) => Prefetch {
-                f_busy: true,
-                f_fresh: false,
-                f_addr: addr,
-                ..*self
-            },
+        if let Some(addr) = request {
+            self.f_busy = true;
+            self.f_fresh = false;
+            self.f_addr = addr;
         }
     }
 
     // The oldest word goes where its last parcel is taken.
-    fn without(&self, taken: u8) -> Prefetch
-        ensures fields { result ≡ took taken self.now }
-        ensures within { IsWithin self.now → IsWithin result }
+    #[inline(always)]
+    fn take(&mut self, taken: u8)
+        ensures fields { self.new ≡ took taken self.old }
+        ensures within { IsWithin self.old → IsWithin self.new }
     {
-        let popped = self.popped(self.head_pc / 2 % 2 + taken as u32 >= 2);
-        Prefetch {
-            head_pc: self.head_pc.wrapping_add(2 * taken as u32),
-            ..popped
-        }
+        let head_pc = self.head_pc.wrapping_add(2 * taken as u32);
+        self.pop(self.head_pc / 2 % 2 + taken as u32 >= 2);
+        self.head_pc = head_pc;
     }
 
+    #[inline(always)]
     #[tactic(auto, unfolding(crate::specs::Buffer::popped))]
-    fn popped(&self, spent: bool) -> Prefetch
-        ensures fields { result ≡ popped spent self.now }
-        ensures within { IsWithin self.now → IsWithin result }
+    fn pop(&mut self, spent: bool)
+        ensures fields { self.new ≡ popped spent self.old }
+        ensures within { IsWithin self.old → IsWithin self.new }
     {
-        if !spent {
-            return *self;
-        }
-        Prefetch {
-            buf0: self.buf1,
-            buf1: self.buf2,
-            buf2: 0,
-            buf_count: self.buf_count.saturating_sub(1),
-            ..*self
+        if spent {
+            self.buf0 = self.buf1;
+            self.buf1 = self.buf2;
+            self.buf2 = 0;
+            self.buf_count = self.buf_count.saturating_sub(1);
         }
     }
 }
 
+#[inline(always)]
 fn entry(err: bool, word: u32) -> u64
     ensures value { result ≡ entry_of err word }
     ensures within { result < 2 ^ 33 }
