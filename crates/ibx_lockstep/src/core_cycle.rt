@@ -2,22 +2,20 @@ ghost use Rattle.std.specs.Prelude.{◌≡◌};
 
 use crate::core_step::CoreStep;
 
-/// A core that works a cycle out once: `begin` gives the output with what was worked out on the way to it, and `finish`
-/// ends the cycle by that.
+/// A core that makes a cycle in place, in two halves: `begin` gives the output, and `finish` ends the cycle once it is
+/// known what was granted.
 pub trait CoreCycle: CoreStep {
-    /// What was worked out of a cycle that has begun.
-    type Begun;
+    // whether a core in the middle of a cycle is what this one has become with this input, whatever is granted
+    ghost begun: { Self → Self.In → Self → Type 0 };
 
-    // whether this was worked out of a core's cycle with this input
-    ghost keeps: { Self → Self.In → Self.Begun → Type 0 };
+    /// Begins a cycle with the input `i`: puts the output, which is that of `out`, into `o`, and moves all that no
+    /// grant decides.
+    fn begin(&mut self, i: &Self::In, o: &mut Self::Out)
+        ensures output { o.new ≡ Self.gives self.old i.now }
+        ensures begun { begun self.old i.now self.new };
 
-    /// The output of a cycle with the input `i`, which is that of `out`, and what was worked out of the cycle.
-    fn begin(&self, i: &Self::In) -> (Self::Out, Self::Begun)
-        ensures output { result.0 ≡ Self.gives self.now i.now }
-        ensures begun { keeps self.now i.now result.1 };
-
-    /// Ends a cycle with the input `i` as `advance` does, by what was worked out of it.
-    fn finish(&mut self, begun: Self::Begun, i: &Self::In)
-        requires { keeps self.old i.now begun }
-        ensures { self.new ≡ Self.leaves self.old i.now };
+    /// Ends the cycle of a core that has begun it, with the input `i` and the output `o` of that cycle, and becomes
+    /// what `advance` makes of it.
+    fn finish(&mut self, i: &Self::In, o: &Self::Out)
+        ensures { (x : Self) → begun x i.now self.old → o.now ≡ Self.gives x i.now → self.new ≡ Self.leaves x i.now };
 }

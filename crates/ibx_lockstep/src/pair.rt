@@ -130,11 +130,12 @@ impl<C: CoreStep> Pair<C> {
     }
 
     // Puts main's input and output in as the newer pair, and counts the cycle.
+    #[inline(always)]
     fn delay_on(&mut self, i: &C::In, o: &C::Out)
         ensures { self.new ≡ record self.old { inputs = pushed self.old.inputs i.now; outputs = pushed self.old.outputs o.now; age = min (self.old.age + 1) 2 } }
     {
-        self.inputs.slots.push(DEPTH, *i);
-        self.outputs.slots.push(DEPTH, *o);
+        self.inputs.slots.push(DEPTH, i);
+        self.outputs.slots.push(DEPTH, o);
         self.age = if self.age >= DELAY {
             DELAY
         } else {
@@ -147,54 +148,65 @@ impl<C: CoreStep> Pair<C> {
     fn told(&self) -> bool
         ensures { result ≡ is_told C.gives C.agree (seen self.now) }
     {
-        let input = self.inputs.slots.back(DEPTH, DELAY);
-        let output = self.outputs.slots.back(DEPTH, DELAY);
-        self.age >= DELAY && !C::same(&self.shadow.out(&input), &output)
+        let input = self.inputs.slots.back_ref(DEPTH, DELAY);
+        let output = self.outputs.slots.back_ref(DEPTH, DELAY);
+        self.age >= DELAY && !C::same(&self.shadow.out(input), output)
     }
 
     // Moves the shadow by the older input, where two cycles have gone by.
     fn follow(&mut self)
         ensures { self.new ≡ record self.old { shadow = (if nat_le 2 self.old.age then C.leaves self.old.shadow (back_of self.old.inputs 2) else self.old.shadow) } }
     {
-        let input = self.inputs.slots.back(DEPTH, DELAY);
         if self.age >= DELAY {
-            self.shadow.advance(&input);
+            self.shadow
+                .advance(self.inputs.slots.back_ref(DEPTH, DELAY));
         }
     }
 }
 
 impl<C: CoreCycle> Pair<C> {
-    /// Ends a cycle as `step` does, by what main worked out of it as it began with the input `i`. The shadow works its
-    /// cycle out once too.
+    /// Begins main's cycle with the input `i`, and puts main's output into `o`. All else stays.
+    #[inline(always)]
+    pub fn begin(&mut self, i: &C::In, o: &mut C::Out)
+        ensures output { o.new ≡ C.gives (seen self.old).main i.now }
+        ensures begun { C.begun (seen self.old).main i.now (seen self.new).main }
+        ensures rest { seen self.new ≡ record (seen self.old) { main = (seen self.new).main } }
+    {
+        self.main.begin(i, o);
+    }
+
+    /// Ends a cycle that main has begun, as `step` does, with main's input `i` and output `o`. The shadow makes its
+    /// cycle once, and puts its output into `own`, from the age of 2 on.
+    #[inline(always)]
     #[tactic(auto, unfolding(crate::specs::Paired::is_told, crate::specs::Paired::stepped), using(crate::proofs::Pairs::newer_pushed, crate::proofs::Pairs::older_pushed))]
-    pub fn step_begun(&mut self, begun: C::Begun, i: &C::In, o: &C::Out) -> bool
-        requires output { o.now ≡ C.gives (seen self.old).main i.now }
-        requires begun { C.keeps (seen self.old).main i.now begun }
+    pub fn finish(&mut self, i: &C::In, o: &C::Out, own: &mut C::Out) -> bool
         ensures told { result ≡ is_told C.gives C.agree (seen self.old) }
-        ensures moved { seen self.new ≡ stepped C.leaves (seen self.old) i.now o.now }
+        ensures moved { (main : C) → C.begun main i.now (seen self.old).main → o.now ≡ C.gives main i.now → seen self.new ≡ stepped C.leaves (record (seen self.old) { main = main }) i.now o.now }
+        ensures own { own.new ≡ (if nat_le 2 (seen self.old).age then C.gives (seen self.old).shadow (seen self.old).older.0 else own.old) }
         // the same by the words of the laws
         ensures told_later { result ≡ is_told_after 2 C.gives C.agree (lockstep_of (seen self.old)) }
-        ensures moved_later { lockstep_of (seen self.new) ≡ stepped_after 2 C.leaves (lockstep_of (seen self.old)) i.now o.now }
+        ensures moved_later { (main : C) → C.begun main i.now (seen self.old).main → o.now ≡ C.gives main i.now → lockstep_of (seen self.new) ≡ stepped_after 2 C.leaves (lockstep_of (record (seen self.old) { main = main })) i.now o.now }
     {
-        let told = self.follow_once();
-        self.main.finish(begun, i);
+        let told = self.follow_once(own);
+        self.main.finish(i, o);
         self.delay_on(i, o);
         told
     }
 
     // Moves the shadow by the older input, where two cycles have gone by, and compares its output on the way.
+    #[inline(always)]
     #[tactic(auto, unfolding(crate::specs::Paired::is_told))]
-    fn follow_once(&mut self) -> bool
+    fn follow_once(&mut self, own: &mut C::Out) -> bool
         ensures told { result ≡ is_told C.gives C.agree (seen self.old) }
+        ensures own { own.new ≡ (if nat_le 2 self.old.age then C.gives self.old.shadow (back_of self.old.inputs 2) else own.old) }
         ensures moved { self.new ≡ record self.old { shadow = (if nat_le 2 self.old.age then C.leaves self.old.shadow (back_of self.old.inputs 2) else self.old.shadow) } }
     {
         if self.age < DELAY {
             return false;
         }
-        let input = self.inputs.slots.back(DEPTH, DELAY);
-        let wanted = self.outputs.slots.back(DEPTH, DELAY);
-        let (own, begun) = self.shadow.begin(&input);
-        self.shadow.finish(begun, &input);
-        !C::same(&own, &wanted)
+        let input = self.inputs.slots.back_ref(DEPTH, DELAY);
+        self.shadow.begin(input, own);
+        self.shadow.finish(input, own);
+        !C::same(own, self.outputs.slots.back_ref(DEPTH, DELAY))
     }
 }

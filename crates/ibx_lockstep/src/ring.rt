@@ -33,7 +33,7 @@ impl<T: Copy, const D: usize> Ring<T, D> {
         ensures newest { back_of self.new 1 ≡ x }
         ensures older { (k : ℕ) → 1 < k → k ≤ D → back_of self.new k ≡ back_of self.old (k - 1) }
     {
-        self.slots.push(D, x);
+        self.slots.push(D, &x);
     }
 
     /// The value of the k-th push before now, k from 1 to D.

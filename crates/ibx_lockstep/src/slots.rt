@@ -26,11 +26,12 @@ impl<T: Copy> Slots<T> {
         }
     }
 
+    #[inline(always)]
     #[tactic(auto, unfolding(crate::specs::Rings::after_push))]
-    pub(crate) fn push(&mut self, depth: usize, x: T)
+    pub(crate) fn push(&mut self, depth: usize, x: &T)
         requires some { 1 ≤ depth }
         requires four { depth ≤ 4 }
-        ensures { self.new ≡ after_push depth self.old x }
+        ensures { self.new ≡ after_push depth self.old x.now }
     {
         let place = self.place as usize % depth;
         self.put(place, x);
@@ -38,12 +39,23 @@ impl<T: Copy> Slots<T> {
     }
 
     /// The value of the k-th push before now, k from 1 to the depth.
-    #[tactic(auto, unfolding(crate::specs::Rings::value_back))]
     pub(crate) fn back(&self, depth: usize, k: u8) -> T
         requires some { 1 ≤ k }
         requires kept { k ≤ depth }
         requires four { depth ≤ 4 }
         ensures { result ≡ value_back depth self.now k }
+    {
+        *self.back_ref(depth, k)
+    }
+
+    /// The same value where it stands.
+    #[inline(always)]
+    #[tactic(auto, unfolding(crate::specs::Rings::value_back))]
+    pub(crate) fn back_ref(&self, depth: usize, k: u8) -> &T
+        requires some { 1 ≤ k }
+        requires kept { k ≤ depth }
+        requires four { depth ≤ 4 }
+        ensures { result.now ≡ value_back depth self.now k }
     {
         self.slot((self.place as usize + depth - k as usize) % depth)
     }
@@ -56,30 +68,32 @@ impl<T: Copy> Slots<T> {
         requires four { depth ≤ 4 }
         ensures { self.new ≡ with_value_back depth self.old k x }
     {
-        self.put((self.place as usize + depth - k as usize) % depth, x);
+        self.put((self.place as usize + depth - k as usize) % depth, &x);
     }
 
+    #[inline(always)]
     #[tactic(auto, unfolding(crate::specs::Rings::slot))]
-    fn slot(&self, index: usize) -> T
-        ensures { result ≡ slot self.now index }
+    fn slot(&self, index: usize) -> &T
+        ensures { result.now ≡ slot self.now index }
     {
         match index {
-            0 => self.first,
-            1 => self.second,
-            2 => self.third,
-            _ => self.fourth,
+            0 => &self.first,
+            1 => &self.second,
+            2 => &self.third,
+            _ => &self.fourth,
         }
     }
 
+    #[inline(always)]
     #[tactic(auto, unfolding(crate::specs::Rings::put))]
-    fn put(&mut self, index: usize, x: T)
-        ensures { self.new ≡ put self.old index x }
+    fn put(&mut self, index: usize, x: &T)
+        ensures { self.new ≡ put self.old index x.now }
     {
         match index {
-            0 => self.first = x,
-            1 => self.second = x,
-            2 => self.third = x,
-            _ => self.fourth = x,
+            0 => self.first = *x,
+            1 => self.second = *x,
+            2 => self.third = *x,
+            _ => self.fourth = *x,
         }
     }
 }
