@@ -4,3 +4,4 @@ pub mod Runs
 pub mod States
 pub mod Written
 pub mod Driven
+pub mod Turned

@@ -25,6 +25,7 @@ pub enum Doing {
 }
 
 impl Doing {
+    #[inline(always)]
     #[tactic(auto, unfolding(crate::specs::Doing::doing_of))]
     pub fn of(state: u8) -> Doing
         ensures { result ≡ doing_of state }
@@ -42,6 +43,7 @@ impl Doing {
         }
     }
 
+    #[inline(always)]
     pub fn state(self) -> u8
         ensures { result ≡ state_of self }
     {
@@ -58,6 +60,7 @@ impl Doing {
         }
     }
 
+    #[inline(always)]
     pub fn is_rest(self) -> bool
         ensures { result ≡ is_rest self }
     {
@@ -67,6 +70,7 @@ impl Doing {
         }
     }
 
+    #[inline(always)]
     pub fn is_look(self) -> bool
         ensures { result ≡ is_look self }
     {
@@ -77,6 +81,7 @@ impl Doing {
     }
 
     /// Whether the request answers; `came` is that the bus answers, and `hit` that the line is there.
+    #[inline(always)]
     #[tactic(auto, unfolding(crate::specs::Doing::answers_by))]
     pub fn answers(self, came: bool, hit: bool) -> bool
         ensures { result ≡ answers_by self came hit }
@@ -90,6 +95,7 @@ impl Doing {
     }
 
     /// Whether the line is stored; `good` is that it may be, and `ended` that the walk has ended.
+    #[inline(always)]
     pub fn stores(self, came: bool, good: bool, ended: bool) -> bool
         ensures { result ≡ stores_by self came good ended }
     {
@@ -99,6 +105,7 @@ impl Doing {
         }
     }
 
+    #[inline(always)]
     #[tactic(auto, unfolding(crate::specs::Doing::granted_by))]
     pub fn granted(self, granted: bool) -> Doing
         ensures { result ≡ granted_by granted self }
@@ -115,6 +122,7 @@ impl Doing {
     }
 
     /// The wires on the bus, for a request of the word at `addr`.
+    #[inline(always)]
     #[tactic(auto, unfolding(crate::specs::Doing::wires_by))]
     pub fn wires(self, addr: u32) -> Req
         ensures { result ≡ wires_by self addr }
@@ -128,6 +136,7 @@ impl Doing {
     }
 }
 
+#[inline(always)]
 fn fetch(addr: u32) -> Req
     ensures { result ≡ fetch_wires addr }
 {

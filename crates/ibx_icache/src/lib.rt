@@ -14,5 +14,5 @@ mod wires;
 mod writes;
 
 pub use ibx_prefetch::WordAns;
-pub use port::WordPort;
+pub use port::{Met, WordPort};
 pub use wires::{CacheIn, CacheOut};

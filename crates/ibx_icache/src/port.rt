@@ -1,15 +1,16 @@
 ghost use Rattle.std.specs.Prelude.{◌≡◌, ◌≢◌, ◌+◌, ◌*◌, ◌/◌, ◌%◌, ◌^◌, ◌<◌, ◌≤◌, Bool, Decides, true, false, ◌&&◌, ◌||◌, not, ◌==◌, nat_le};
 ghost use Rattle.ibx_isa.specs.declared.bus.Rsp.{Rsp};
 ghost use Rattle.ibx_secded.specs.Code.{payload_of, syndrome_of};
-ghost use Rattle.ibx_icache.specs.Doing.{doing_of, is_rest};
-ghost use Rattle.ibx_icache.specs.WordPort.{AreCodewords, AreSound, IsFields, IsInput, IsLook, after_answer, after_request, alerts_of, answer_of, begun_by, entry_by, filling_of, gone_by, half_of, is_bad_word, is_cached, is_hit, is_wrong, look_of, looked, marked, out_of, reset_of, rsp_entry, stores_of, victim_of, walked, wires_of, word_in, word_port_next};
+ghost use Rattle.ibx_prefetch.specs.Buffer.{entry_of};
+ghost use Rattle.ibx_icache.specs.Doing.{doing_of, granted_by, is_rest, state_of, wires_by};
+ghost use Rattle.ibx_icache.specs.WordPort.{AreCodewords, AreSound, IsFields, IsInput, WordIn, answer_of, begun_by, entry_by, filling_of, gone_by, half_of, is_bad_word, is_cached, is_hit, look_of, looked, marked, met_of, out_of, reset_of, rsp_entry, stores_of, victim_of, walked, word_in, word_port_next};
 ghost use Rattle.ibx_icache.specs.Rules.{Empties, Emptying, IsBad, IsFetch, IsGiven, IsHit, IsMiss, IsOutput, IsStored, IsVictim, KeepsFences, StoresLine, WalksOn, half_at, hit_answer, word_in_way};
 
 use crate::doing::Doing;
-use crate::lookup::Look;
+use crate::lookup::{Found, Look};
 use crate::wires::{CacheIn, CacheOut};
 use crate::writes::{Filling, alerts, data_word, out_wires, slot, tag_word};
-use ibx_isa::{Alerts, Req, Rsp};
+use ibx_isa::{Req, Rsp};
 use ibx_prefetch::WordAns;
 use ibx_secded::Code;
 
@@ -39,6 +40,19 @@ pub struct WordPort {
     pub c_nostore: bool,
 }
 
+/// What comes to the outstanding request in a cycle, before the next request is known.
+#[derive(Clone, Copy)]
+pub struct Met {
+    /// The answer of the cycle.
+    pub ans: WordAns,
+    /// The request is looked up, and its line is there.
+    pub hit: bool,
+    /// The request is looked up, and a way is bad.
+    pub bad: bool,
+    /// The request is looked up, and a miss would fill way 1.
+    pub victim: bool,
+}
+
 impl WordPort {
     /// The port at reset: no request is outstanding, and the walk begins.
     #[tactic(auto, unfolding(crate::specs::WordPort::reset_of))]
@@ -64,6 +78,7 @@ impl WordPort {
     }
 
     /// The byte address at which the cache is read in this cycle: that of the request that is looked up, and else 0.
+    #[inline(always)]
     pub fn looked(&self) -> u32
         ensures { result ≡ looked self.now }
     {
@@ -83,7 +98,7 @@ impl WordPort {
         // After a miss it answers with its own word of the line, and with that word's error.
         ensures last { self.now.c_state ≡ 6 → IsGiven result (half_at self.now (self.now.c_addr / 4 % 2)) }
     {
-        self.answered(&i.rsp, &Look::of(i))
+        self.meet(i).ans
     }
 
     /// The wires of this cycle.
@@ -131,24 +146,93 @@ impl WordPort {
         ensures walk { WalksOn i.now.fence self.old.c_walk self.new.c_walk }
         ensures anew { i.now.fence ≡ true → Emptying self.new }
     {
-        *self = self.next(i);
+        self.step(i);
     }
 
-    #[tactic(auto, unfolding(crate::specs::WordPort::answer_of))]
-    fn answered(&self, rsp: &Rsp, look: &Look) -> WordAns
-        requires word { rsp.now.word < 2 ^ 39 }
-        requires look { IsLook look.now }
-        ensures { result ≡ answer_of self.now rsp.now look.now }
+    /// What comes to the outstanding request in a cycle. It needs neither the cycle's request nor its FENCE.I.
+    #[inline(always)]
+    pub fn meet(&self, i: &CacheIn) -> Met
+        requires { IsInput i.now }
+        ensures { result ≡ met_of self.now i.now.rsp (look_of i.now.tags i.now.lanes) }
+    {
+        let found = self.found(i);
+        Met {
+            ans: self.answered(i, found.hit),
+            hit: found.hit,
+            bad: found.bad,
+            victim: found.victim,
+        }
+    }
+
+    /// A cycle in place, in which nothing is granted, with its wires: `met` is what came in it. It doesn't look at
+    /// `i.granted`; where the request that is driven is granted, `grant` comes after it.
+    #[inline(always)]
+    #[tactic(auto, using(crate::proofs::Runs::next_fields))]
+    pub fn turn(&mut self, i: &CacheIn, met: &Met) -> CacheOut
+        requires input { IsInput i.now }
+        requires met { met.now ≡ met_of self.old i.now.rsp (look_of i.now.tags i.now.lanes) }
+        ensures out { result ≡ out_of self.old (word_in i.now) }
+        ensures fields { self.new ≡ word_port_next self.old (word_in i.now) false }
+        ensures widths { IsOutput result }
+        ensures codewords { result.ways ≢ 0 → AreCodewords result.tag result.line0 result.line1 }
+        ensures aligned { result.bus.addr % 4 ≡ 0 }
+        ensures kept { IsFields self.old → IsFields self.new }
+    {
+        let flipped = is_flipped(&i.rsp);
+        let filling = self.filling(i, flipped);
+        self.proceed(i, met, flipped);
+        out_wires(filling, self.wires(), alerts(met.bad, flipped))
+    }
+
+    /// The request that was driven is granted: it is awaited from now on.
+    #[inline(always)]
+    #[tactic(auto, using(crate::proofs::Turned::grant_rules))]
+    pub fn grant(&mut self)
+        ensures value { self.new ≡ record self.old { c_state = state_of (granted_by true (doing_of self.old.c_state)) } }
+
+        // After `turn` it is the cycle in which the request is granted.
+        ensures law { (w : WordPort) (i : WordIn) → self.old ≡ word_port_next w i false → self.new ≡ word_port_next w i true }
+        ensures kept { IsFields self.old → IsFields self.new }
+    {
+        self.c_state = Doing::of(self.c_state).granted(true).state();
+    }
+
+    // What the lookup tells. The words that are read are looked at nowhere else.
+    #[inline(always)]
+    fn found(&self, i: &CacheIn) -> Found
+        requires { IsInput i.now }
+        ensures hit { result.hit ≡ (met_of self.now i.now.rsp (look_of i.now.tags i.now.lanes)).hit }
+        ensures bad { result.bad ≡ (met_of self.now i.now.rsp (look_of i.now.tags i.now.lanes)).bad }
+        ensures victim { result.victim ≡ (met_of self.now i.now.rsp (look_of i.now.tags i.now.lanes)).victim }
+    {
+        if Doing::of(self.c_state).is_look() {
+            Look::of(i).find(self.c_addr, self.c_alt)
+        } else {
+            Found {
+                hit: false,
+                bad: false,
+                victim: false,
+            }
+        }
+    }
+
+    // The answer, where `hit` is that the lookup found the line.
+    #[inline(always)]
+    #[tactic(auto, unfolding(crate::specs::WordPort::answer_of), using(crate::proofs::Turned::answers_looked))]
+    fn answered(&self, i: &CacheIn, hit: bool) -> WordAns
+        requires input { IsInput i.now }
+        requires hit { hit ≡ (met_of self.now i.now.rsp (look_of i.now.tags i.now.lanes)).hit }
+        ensures { result ≡ answer_of self.now i.now.rsp (look_of i.now.tags i.now.lanes) }
     {
         let doing = Doing::of(self.c_state);
-        if !doing.answers(rsp.valid, look.is_hit(self.c_addr)) {
+        if !doing.answers(i.rsp.valid, hit) {
             return WordAns {
                 valid: false,
                 err: false,
                 word: 0,
             };
         }
-        let entry = self.entry(doing, rsp, look);
+        let entry = self.entry(doing, &i.rsp, &Look::of(i));
         WordAns {
             valid: true,
             err: entry / 0x1_0000_0000 != 0,
@@ -157,6 +241,7 @@ impl WordPort {
     }
 
     // The word of its answer, with its error in bit 32.
+    #[inline(always)]
     #[tactic(auto, unfolding(crate::specs::WordPort::entry_by))]
     fn entry(&self, doing: Doing, rsp: &Rsp, look: &Look) -> u64
         requires { rsp.now.word < 2 ^ 39 }
@@ -165,7 +250,7 @@ impl WordPort {
         match doing {
             Doing::Looks => look.found_word(self.c_addr) as u64,
             Doing::Answers => half(self.c_addr, self.c_word0, self.c_word1),
-            _ => rsp_entry(rsp),
+            _ => rsp_entry(rsp, is_bad(rsp)),
         }
     }
 
@@ -183,28 +268,50 @@ impl WordPort {
         self.driven(i)
     }
 
-    #[tactic(auto, unfolding(crate::specs::WordPort::out_of))]
     fn driven(&self, i: &CacheIn) -> CacheOut
         requires { IsInput i.now }
         ensures value { result ≡ out_of self.now (word_in i.now) }
         ensures widths { IsOutput result }
         ensures codewords { result.ways ≢ 0 → AreCodewords result.tag result.line0 result.line1 }
     {
-        out_wires(self.filling(i), self.wires(i), self.alerts(i))
+        let met = self.meet(i);
+        let mut port = *self;
+        port.turn(i, &met)
     }
 
-    #[tactic(auto, unfolding(crate::specs::WordPort::alerts_of))]
-    fn alerts(&self, i: &CacheIn) -> Alerts
+    // A cycle, with its grant.
+    fn step(&mut self, i: &CacheIn)
         requires { IsInput i.now }
-        ensures { result ≡ alerts_of self.now (word_in i.now) }
+        ensures { self.new ≡ word_port_next self.old (word_in i.now) i.now.granted }
     {
-        let minor = Doing::of(self.c_state).is_look() && Look::of(i).is_bad(self.c_addr);
-        alerts(minor, i.rsp.valid && is_flipped(&i.rsp))
+        let met = self.meet(i);
+        let _wires = self.turn(i, &met);
+        if i.granted {
+            self.grant();
+        }
     }
 
+    // The fields of a cycle in which nothing is granted.
+    #[inline(always)]
+    fn proceed(&mut self, i: &CacheIn, met: &Met, flipped: bool)
+        requires met { met.now ≡ met_of self.old i.now.rsp (look_of i.now.tags i.now.lanes) }
+        requires flipped { flipped ≡ (i.now.rsp.valid && is_bad_word i.now.rsp.word) }
+        ensures { self.new ≡ word_port_next self.old (word_in i.now) false }
+    {
+        let cached = self.is_cached(i);
+        let c_walk = walked(i.fence, self.c_walk);
+        self.go(i, met, flipped);
+        self.mark(i.fence);
+        self.begin(cached, i.request);
+        self.c_state = Doing::of(self.c_state).state();
+        self.c_walk = c_walk;
+    }
+
+    #[inline(always)]
     #[tactic(auto, unfolding(crate::specs::WordPort::filling_of))]
-    fn filling(&self, i: &CacheIn) -> Filling
-        requires { IsInput i.now }
+    fn filling(&self, i: &CacheIn, flipped: bool) -> Filling
+        requires input { IsInput i.now }
+        requires flipped { flipped ≡ (i.now.rsp.valid && is_bad_word i.now.rsp.word) }
         ensures value { result ≡ filling_of self.now (word_in i.now) }
         ensures sound { AreSound result }
     {
@@ -212,7 +319,7 @@ impl WordPort {
             Filling::Clears {
                 set: self.c_walk as u8,
             }
-        } else if self.stores(i) {
+        } else if self.stores(i, flipped) {
             Filling::Stores {
                 slot: slot(self.c_addr, self.c_way),
                 tag: tag_word(self.c_addr),
@@ -224,130 +331,95 @@ impl WordPort {
         }
     }
 
-    #[tactic(auto, unfolding(crate::specs::WordPort::wires_of))]
-    fn wires(&self, i: &CacheIn) -> Req
-        requires { IsInput i.now }
-        ensures { result ≡ wires_of self.now (word_in i.now) }
+    // The wires on the bus, after the cycle's request.
+    #[inline(always)]
+    fn wires(&self) -> Req
+        ensures { result ≡ wires_by (doing_of self.now.c_state) self.now.c_addr }
     {
-        let port = self.after_request(i);
-        Doing::of(port.c_state).wires(port.c_addr)
-    }
-
-    #[tactic(auto, unfolding(crate::specs::WordPort::word_port_next))]
-    fn next(&self, i: &CacheIn) -> WordPort
-        requires { IsInput i.now }
-        ensures { result ≡ word_port_next self.now (word_in i.now) i.now.granted }
-    {
-        let port = self.after_request(i);
-        WordPort {
-            c_state: Doing::of(port.c_state).granted(i.granted).state(),
-            c_walk: walked(i.fence, self.c_walk),
-            ..port
-        }
+        Doing::of(self.c_state).wires(self.c_addr)
     }
 
     // Whether the line is stored in this cycle: neither of its words is an error, and no FENCE.I came meanwhile.
-    fn stores(&self, i: &CacheIn) -> bool
-        requires { IsInput i.now }
+    #[inline(always)]
+    #[tactic(auto, using(crate::proofs::Turned::stores_came))]
+    fn stores(&self, i: &CacheIn, flipped: bool) -> bool
+        requires flipped { flipped ≡ (i.now.rsp.valid && is_bad_word i.now.rsp.word) }
         ensures { result ≡ stores_of self.now (word_in i.now) }
     {
         let fenced = self.c_nostore || i.fence;
-        let good = !is_wrong(&i.rsp) && self.c_word0 / 0x1_0000_0000 == 0 && !fenced;
+        let wrong = i.rsp.err || flipped;
+        let good = !wrong && self.c_word0 / 0x1_0000_0000 == 0 && !fenced;
         Doing::of(self.c_state).stores(i.rsp.valid, good, self.c_walk >= 256)
     }
 
+    #[inline(always)]
     fn is_cached(&self, i: &CacheIn) -> bool
         ensures { result ≡ is_cached self.now (word_in i.now) }
     {
         i.enable && self.c_walk >= 256 && !i.fence
     }
 
-    // The port after this cycle's answer, or the next step of the outstanding request.
-    fn after_answer(&self, i: &CacheIn) -> WordPort
-        requires { IsInput i.now }
-        ensures { result ≡ after_answer self.now (word_in i.now) }
-    {
-        marked(i.fence, self.gone(i))
-    }
-
-    // What comes to the outstanding request. The words that are read, and the answer's, are looked at only where they count.
+    // What comes to the outstanding request: this cycle's answer, or its next step.
+    #[inline(always)]
     #[tactic(auto, unfolding(crate::specs::WordPort::gone_by))]
-    fn gone(&self, i: &CacheIn) -> WordPort
-        requires { IsInput i.now }
-        ensures { result ≡ gone_by (doing_of self.now.c_state) i.now.rsp.valid (is_hit (look_of i.now.tags i.now.lanes) self.now.c_addr) (stores_of self.now (word_in i.now)) (victim_of (look_of i.now.tags i.now.lanes) self.now.c_addr self.now.c_alt) (rsp_entry i.now.rsp) self.now }
+    fn go(&mut self, i: &CacheIn, met: &Met, flipped: bool)
+        requires met { met.now ≡ met_of self.old i.now.rsp (look_of i.now.tags i.now.lanes) }
+        requires flipped { flipped ≡ (i.now.rsp.valid && is_bad_word i.now.rsp.word) }
+        ensures { self.new ≡ gone_by (doing_of self.old.c_state) i.now.rsp.valid (is_hit (look_of i.now.tags i.now.lanes) self.old.c_addr) (stores_of self.old (word_in i.now)) (victim_of (look_of i.now.tags i.now.lanes) self.old.c_addr self.old.c_alt) (rsp_entry i.now.rsp) self.old }
     {
         match Doing::of(self.c_state) {
-            Doing::Looks if Look::of(i).is_hit(self.c_addr) => in_state(0, self),
-            Doing::Looks => WordPort {
-                c_way: Look::of(i).victim(self.c_addr, self.c_alt),
-                ..in_state(2, self)
-            },
-            Doing::AwaitsFirst if i.rsp.valid => WordPort {
-                c_word0: rsp_entry(&i.rsp),
-                ..in_state(4, self)
-            },
-            Doing::AwaitsSecond if i.rsp.valid => WordPort {
-                c_word1: rsp_entry(&i.rsp),
-                c_alt: if self.stores(i) {
+            Doing::Looks if met.hit => self.c_state = 0,
+            Doing::Looks => {
+                self.c_state = 2;
+                self.c_way = met.victim;
+            }
+            Doing::AwaitsFirst if i.rsp.valid => {
+                self.c_state = 4;
+                self.c_word0 = rsp_entry(&i.rsp, flipped);
+            }
+            Doing::AwaitsSecond if i.rsp.valid => {
+                self.c_alt = if self.stores(i, flipped) {
                     !self.c_way
                 } else {
                     self.c_alt
-                },
-                ..in_state(6, self)
-            },
-            Doing::AwaitsBare if i.rsp.valid => in_state(0, self),
-            Doing::Rests | Doing::Answers => in_state(0, self),
-            _ => *self,
+                };
+                self.c_state = 6;
+                self.c_word1 = rsp_entry(&i.rsp, flipped);
+            }
+            Doing::AwaitsBare if i.rsp.valid => self.c_state = 0,
+            Doing::Rests | Doing::Answers => self.c_state = 0,
+            _ => {}
         }
     }
 
-    // The port after this cycle's request too.
-    fn after_request(&self, i: &CacheIn) -> WordPort
-        requires { IsInput i.now }
-        ensures { result ≡ after_request self.now (word_in i.now) }
+    // A FENCE.I keeps the line of an outstanding request from being stored.
+    #[inline(always)]
+    fn mark(&mut self, fence: bool)
+        ensures { self.new ≡ marked fence self.old }
     {
-        let port = self.after_answer(i);
-        begun(
-            Doing::of(port.c_state).is_rest(),
-            self.is_cached(i),
-            i.request,
-            &port,
-        )
+        let rests = Doing::of(self.c_state).is_rest();
+        self.c_nostore = !rests && (self.c_nostore || fence);
     }
-}
 
-fn in_state(c_state: u8, port: &WordPort) -> WordPort
-    ensures { result ≡ record port.now { c_state = c_state } }
-{
-    WordPort { c_state, ..*port }
-}
-
-// A FENCE.I keeps the line of an outstanding request from being stored.
-fn marked(fence: bool, port: WordPort) -> WordPort
-    ensures { result ≡ marked fence port }
-{
-    let rests = Doing::of(port.c_state).is_rest();
-    WordPort {
-        c_nostore: !rests && (port.c_nostore || fence),
-        ..port
-    }
-}
-
-#[tactic(auto, unfolding(crate::specs::WordPort::begun_by))]
-fn begun(rests: bool, cached: bool, request: Option<u32>, port: &WordPort) -> WordPort
-    ensures { result ≡ begun_by rests cached request port.now }
-{
-    match request {
-        Some(addr) if rests => WordPort {
-            c_addr: addr,
-            c_nostore: false,
-            ..in_state(if cached { 1 } else { 7 }, port)
-        },
-        _ => *port,
+    // A request is taken up where none is outstanding.
+    #[inline(always)]
+    #[tactic(auto, unfolding(crate::specs::WordPort::begun_by))]
+    fn begin(&mut self, cached: bool, request: Option<u32>)
+        ensures { self.new ≡ begun_by (is_rest (doing_of self.old.c_state)) cached request self.old }
+    {
+        match request {
+            Some(addr) if Doing::of(self.c_state).is_rest() => {
+                self.c_state = if cached { 1 } else { 7 };
+                self.c_addr = addr;
+                self.c_nostore = false;
+            }
+            _ => {}
+        }
     }
 }
 
 // The walk empties a set a cycle, and a FENCE.I begins it anew.
+#[inline(always)]
 fn walked(fence: bool, walk: u16) -> u16
     ensures { result ≡ walked fence walk }
 {
@@ -360,36 +432,44 @@ fn walked(fence: bool, walk: u16) -> u16
     }
 }
 
+#[inline(always)]
 fn half(addr: u32, word0: u64, word1: u64) -> u64
     ensures { result ≡ half_of addr word0 word1 }
 {
     if addr / 4 % 2 == 0 { word0 } else { word1 }
 }
 
+#[inline(always)]
 fn payload(rsp: &Rsp) -> u32
     ensures { result ≡ payload_of 32 rsp.now.word }
 {
     Code::<32, 7>::payload(rsp.word) as u32
 }
 
-fn is_flipped(rsp: &Rsp) -> bool
+// Whether the word has a flipped bit, whether or not it answers.
+#[inline(always)]
+fn is_bad(rsp: &Rsp) -> bool
     requires { rsp.now.word < 2 ^ 39 }
     ensures { result ≡ is_bad_word rsp.now.word }
 {
     Code::<32, 7>::syndrome(rsp.word) != 0
 }
 
-fn is_wrong(rsp: &Rsp) -> bool
+// Whether a word answers that has a flipped bit. Its syndrome is worked out only where one answers.
+#[inline(always)]
+fn is_flipped(rsp: &Rsp) -> bool
     requires { rsp.now.word < 2 ^ 39 }
-    ensures { result ≡ is_wrong rsp.now }
+    ensures { result ≡ (rsp.now.valid && is_bad_word rsp.now.word) }
 {
-    rsp.err || is_flipped(rsp)
+    rsp.valid && is_bad(rsp)
 }
 
-fn rsp_entry(rsp: &Rsp) -> u64
-    requires { rsp.now.word < 2 ^ 39 }
-    ensures value { result ≡ rsp_entry rsp.now }
+// Its word, with bit 32 set where it is an error or has a flipped bit.
+#[inline(always)]
+fn rsp_entry(rsp: &Rsp, flipped: bool) -> u64
+    ensures value { result ≡ entry_of (rsp.now.err || flipped) (payload_of 32 rsp.now.word) }
     ensures fits { result < 2 ^ 33 }
 {
-    payload(rsp) as u64 + if is_wrong(rsp) { 0x1_0000_0000 } else { 0 }
+    let wrong = rsp.err || flipped;
+    payload(rsp) as u64 + if wrong { 0x1_0000_0000 } else { 0 }
 }

@@ -49,6 +49,7 @@ pub fn data_word(entry: u64) -> u64
     Code::<32, 7>::encode(entry % 0x1_0000_0000)
 }
 
+#[inline(always)]
 pub fn alerts(minor: bool, bus: bool) -> Alerts
     ensures { result ≡ alerts_by minor bus }
 {
@@ -60,10 +61,11 @@ pub fn alerts(minor: bool, bus: bool) -> Alerts
     }
 }
 
+#[inline(always)]
 pub fn out_wires(filling: Filling, bus: Req, alerts: Alerts) -> CacheOut
     ensures { result ≡ out_by filling bus alerts }
 {
-    let still = CacheOut {
+    let mut out = CacheOut {
         bus,
         ways: 0,
         set: 0,
@@ -74,24 +76,23 @@ pub fn out_wires(filling: Filling, bus: Req, alerts: Alerts) -> CacheOut
         alerts,
     };
     match filling {
-        Filling::Nothing => still,
-        Filling::Clears { set } => CacheOut {
-            set,
-            clear: true,
-            ..still
-        },
+        Filling::Nothing => {}
+        Filling::Clears { set } => {
+            out.set = set;
+            out.clear = true;
+        }
         Filling::Stores {
             slot,
             tag,
             word0,
             word1,
-        } => CacheOut {
-            ways: if slot % 2 == 0 { 1 } else { 2 },
-            set: (slot / 2 % 256) as u8,
-            tag,
-            line0: word0,
-            line1: word1,
-            ..still
-        },
+        } => {
+            out.ways = if slot % 2 == 0 { 1 } else { 2 };
+            out.set = (slot / 2 % 256) as u8;
+            out.tag = tag;
+            out.line0 = word0;
+            out.line1 = word1;
+        }
     }
+    out
 }
