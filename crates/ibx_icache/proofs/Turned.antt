@@ -56,7 +56,8 @@ pub granted_next : (p w : WordPort) (i : WordIn) → p ≡ word_port_next w i fa
 unfolding word_port_next
 granted_next p w i e =
     ap (λ (q : WordPort). record q { c_state = state_of (granted_by true (doing_of q.c_state)) }) e
-    ∙ ap (λ (s : ℕ). record (word_port_next w i false) { c_state = s }) (regranted (doing_of (after_request w i).c_state))
+    ∙ ap (λ (s : ℕ). record (word_port_next w i false) { c_state = s })
+    (regranted (doing_of (after_request w i).c_state))
 
 -- a grant keeps the widths
 pub granted_fields : (p : WordPort) (g : Doing) → IsFields p → IsFields (record p { c_state = state_of g })
@@ -91,8 +92,8 @@ alerts_met w i bad flipped minor bus =
     ∙ ap (λ (b : Bool). alerts_by (is_look (doing_of w.c_state) && has_bad i.look w.c_addr) b) bus
 
 -- what is driven, from its parts
-pub turned_out : (w : WordPort) (i : WordIn) (filling : Filling) (bus : Req) (alerts : Alerts) → filling ≡ filling_of w i
-    → bus ≡ wires_of w i → alerts ≡ alerts_of w i → out_by filling bus alerts ≡ out_of w i
+pub turned_out : (w : WordPort) (i : WordIn) (filling : Filling) (bus : Req) (alerts : Alerts)
+    → filling ≡ filling_of w i → bus ≡ wires_of w i → alerts ≡ alerts_of w i → out_by filling bus alerts ≡ out_of w i
 unfolding out_of
 turned_out w i filling bus alerts fills drives tells =
     ap (λ (f : Filling). out_by f bus alerts) fills ∙ ap (λ (b : Req). out_by (filling_of w i) b alerts) drives

@@ -7,7 +7,8 @@ use Rattle.ibx_icache.proofs.port.WordPort.proceed.Goals as goal
 pub returns : goal.returns
 returns c =
     let i = word_in c.args.i.now in
-    let answered : c.mark.new.self ≡ after_answer c.args.self.now i = c.mark.ensures ∙ ap (marked i.fence) c.go.ensures in
+    let answered : c.mark.new.self ≡ after_answer c.args.self.now i =
+    c.mark.ensures ∙ ap (marked i.fence) c.go.ensures in
     let begun : c.begin.new.self ≡ after_request c.args.self.now i = c.begin.ensures
     ∙ ap (λ v. begun_by (is_rest (doing_of v.c_state)) c.is_cached-cached.result i.request v) answered
     ∙ ap (λ b. begun_by (is_rest (doing_of (after_answer c.args.self.now i).c_state)) b i.request

@@ -9,8 +9,10 @@ pub returns-clause-out : goal.returns-clause-out
 returns-clause-out c =
     let i = word_in c.args.i.now in
     c.out_wires.ensures
-    ∙ turned_out c.args.self.now i c.filling-filling.result c.wires.result c.alerts.result c.filling-filling.ensures.value
-    (c.wires.ensures ∙ ap (λ p. wires_by (doing_of p.c_state) p.c_addr) c.proceed.ensures ∙ turned_wires c.args.self.now i)
+    ∙ turned_out c.args.self.now i c.filling-filling.result c.wires.result c.alerts.result
+    c.filling-filling.ensures.value
+    (c.wires.ensures ∙ ap (λ p. wires_by (doing_of p.c_state) p.c_addr) c.proceed.ensures
+    ∙ turned_wires c.args.self.now i)
     (c.alerts.ensures
     ∙ alerts_met c.args.self.now i c.args.met.now.bad c.is_flipped-flipped.result (ap (λ m. m.bad) c.requires.met)
     c.is_flipped-flipped.ensures)
