@@ -1,14 +1,23 @@
 -- The laws of a cycle, for every value of the fields and the wires: unused words and grants have no effect on the wires
 -- out, what is read is put out, and the alerts are those of their causes.
-use Rattle.std.proofs.Common.{◌≡◌, ℕ, ◌+◌, ◌*◌, Bool, true, false, refl, ◌∙◌, ap}
+use Rattle.std.proofs.Common.{◌≡◌, ℕ, ◌+◌, ◌*◌, Bool, true, false, Option, Some, None, refl, sym, ◌∙◌, ap}
 use Rattle.std.specs.Prelude.{not, ◌&&◌, ◌||◌, if◌then◌else◌, ◌%◌, ◌/◌, ◌==◌}
-use Rattle.ibx_icache.specs.WordPort.{is_bad_tag, is_bad_word, matches}
+use Rattle.ibx_isa.specs.declared.event.Access.{Access}
+use Rattle.ibx_isa.specs.declared.bus.Rsp.{Rsp}
+use Rattle.ibx_icache.specs.declared.doing.Doing.{Doing}
+use Rattle.ibx_icache.specs.declared.port.WordPort.{WordPort}
+use Rattle.ibx_icache.specs.Doing.{doing_of, granted_by, state_of}
+use Rattle.ibx_icache.specs.WordPort.{WordIn, after_request, is_bad_tag, is_bad_word, matches, walked, word_port_next}
+use Rattle.ibx_icache.proofs.States.{doing-state}
+use Rattle.ibx_lsu.specs.declared.unit.Lsu.{Lsu}
+use Rattle.ibx_lsu.specs.Turns.{granted_of, next_of as ls_next, turn_of as ls_turn}
+use Rattle.ibx_lsu.proofs.Grants.{granted_after, granted_silent}
 use Rattle.ibx_core.specs.declared.state.State.{State}
-use Rattle.ibx_core.specs.Core.{IsSameUsed, alerts_of, before_grants, core_next, core_out, cycle_of, cycle_seen, cycle_with}
-use Rattle.ibx_core.specs.Core.{gives, heard, is_bus, is_internal, is_minor, leaves, looks, out_by, out_with, port_of}
-use Rattle.ibx_core.specs.Core.{reads_in, reads_of, takes0, takes1}
+use Rattle.ibx_core.specs.Core.{Cycle, IsSameUsed, alerts_of, before_grants, core_next, core_out, cycle_of, cycle_seen}
+use Rattle.ibx_core.specs.Core.{cycle_with, gives, granted, granted_port, heard, is_bus, is_internal, is_minor, leaves}
+use Rattle.ibx_core.specs.Core.{looks, ls_by, next_by, out_by, out_with, port_of, reads_in, reads_of, takes0, takes1}
 use Rattle.ibx_core.specs.Fields.{bit}
-use Rattle.ibx_core.specs.Sights.{sight_of, sight_with}
+use Rattle.ibx_core.specs.Sights.{drsp_of, sight_of, sight_with, turn_by}
 use Rattle.ibx_core.specs.Wires.{InWires}
 
 -- ---- unused words
@@ -83,9 +92,44 @@ unfolding core_out heard gives out_by port_of alerts_of cycle_of cycle_seen cycl
 ungranted x i igrant dgrant = refl
 
 -- a cycle is worked out before its grants
-pub cycle_ungranted : (x : State) (i : InWires) → cycle_of x (heard x (before_grants i)) ≡ cycle_of x (heard x i)
-unfolding heard cycle_of cycle_seen cycle_with sight_of sight_with
-cycle_ungranted x i = refl
+pub seen_ungranted : (x : State) (i : InWires) → cycle_of x (before_grants i) ≡ cycle_of x i
+unfolding cycle_of cycle_seen cycle_with sight_of sight_with
+seen_ungranted x i = refl
+
+-- a request that the word port drove is granted after the cycle as in it
+port_granted : (w : WordPort) (p : WordIn) (grant : Bool)
+    → (if grant then granted_port (word_port_next w p false) else word_port_next w p false) ≡ word_port_next w p grant
+unfolding word_port_next granted_by doing_of
+port_granted w p false = refl
+port_granted w p true =
+    ap (λ (g : Doing). record (after_request w p) { c_state = state_of (granted_by true g); c_walk = walked p.fence w.c_walk })
+    (doing-state (doing_of (after_request w p).c_state))
+
+-- so is one of an access, where there is one
+access_granted : (ls : Lsu) (want : Access) (rsp : Rsp) (driven : Bool) → (ls_turn ls want rsp).req.valid ≡ driven
+    → (if driven then granted_of (ls_next ls want rsp false) else ls_next ls want rsp false) ≡ ls_next ls want rsp true
+access_granted ls want rsp true e = granted_after ls want rsp e
+access_granted ls want rsp false e = sym (granted_silent ls want rsp e)
+
+-- an access that isn't active drives no request
+ls_granted : (active : Bool) (access : Option Access) (ls : Lsu) (rsp : Rsp) (grant : Bool)
+    → (if grant && (turn_by active access ls rsp).req.valid then granted_of (ls_by active access ls rsp false)
+    else ls_by active access ls rsp false) ≡ ls_by active access ls rsp grant
+unfolding turn_by ls_by
+ls_granted active access ls rsp false = refl
+ls_granted false access ls rsp true = refl
+ls_granted true None ls rsp true = refl
+ls_granted true (Some want) ls rsp true = access_granted ls want rsp (ls_turn ls want rsp).req.valid refl
+
+-- the fields after a cycle are those without a grant, changed by the grants
+pub grants_last : (x : State) (i : InWires)
+    → granted i.igrant (i.dgrant && (core_out x i).dreq) (core_next x (before_grants i)) ≡ core_next x i
+unfolding core_next core_out leaves gives heard out_by out_with next_by port_of cycle_of cycle_seen cycle_with sight_of sight_with
+grants_last x i =
+    let c : Cycle = cycle_of x (heard x i) in
+    let port = port_granted x.words (port_of x (heard x i) c.request c.effect.fence) i.igrant in
+    let access = ls_granted c.sight.active c.sight.access x.ls (drsp_of (heard x i)) i.dgrant in
+    λ t. record (core_next x i) { words = port t; ls = access t }
 
 -- what is read is put out
 pub reading : (x : State) (i : InWires) → reads_in (core_out x i) ≡ reads_of x

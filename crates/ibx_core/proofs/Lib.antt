@@ -7,3 +7,4 @@ pub mod Registers
 pub mod Codewords
 pub mod OneBit
 pub mod Unset
+pub mod Turns

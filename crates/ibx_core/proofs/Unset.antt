@@ -6,7 +6,7 @@ use Rattle.ibx_csr.specs.declared.csrs.Csrs.{Csrs}
 use Rattle.ibx_csr.specs.Fields.{addrs, values}
 use Rattle.ibx_csr.specs.Values.{cfg_bytes}
 use Rattle.ibx_pmp.specs.declared.protection.AccessKind.{AccessKind}
-use Rattle.ibx_pmp.specs.Ranges.{Entry, allowed, by_entry, covers, entries_after, meets}
+use Rattle.ibx_pmp.specs.Ranges.{allowed, by_entry, covers, entries_after, meets}
 use Rattle.ibx_core.specs.Entries.{is_unset}
 
 -- entries whose bytes are 0 decide nothing

@@ -1,6 +1,8 @@
 -- The core: what a cycle comes to from the fields and the wires, in order, and the fields after it. Our own rule.
 use Rattle.std.specs.Prelude.{◌≡◌, ℕ, ◌+◌, ◌*◌, ◌%◌, ◌^◌, Bool, true, false, not, ◌&&◌, ◌||◌, ◌==◌, if◌then◌else◌, Option, Some, None, bit_and}
 use Rattle.ibx_isa.specs.declared.event.Access.{Access}
+use Rattle.ibx_isa.specs.declared.event.Event.{Event}
+use Rattle.ibx_isa.specs.declared.bus.Req.{Req}
 use Rattle.ibx_isa.specs.declared.bus.Rsp.{Rsp}
 use Rattle.ibx_isa.specs.ControlBits.{icache_enable}
 use Rattle.ibx_secded.specs.Code.{encode_of, payload_of}
@@ -13,23 +15,21 @@ use Rattle.ibx_prefetch.specs.Buffer.{fetch_after_answer, head_of, prefetch_next
 use Rattle.ibx_icache.specs.declared.lookup.Look.{Look}
 use Rattle.ibx_icache.specs.declared.port.WordPort.{WordPort}
 use Rattle.ibx_icache.specs.declared.wires.CacheOut.{CacheOut}
+use Rattle.ibx_icache.specs.Doing.{doing_of, granted_by, state_of}
 use Rattle.ibx_icache.specs.WordPort.{WordIn, answer_of, has_bad, is_bad_word, looked, matches, out_of, word_port_next}
 use Rattle.ibx_muldiv.specs.declared.unit.MulDiv.{MulDiv}
 use Rattle.ibx_muldiv.specs.Unit.{idle_of, left_of, tick_of}
 use Rattle.ibx_lsu.specs.declared.unit.Lsu.{Lsu}
-use Rattle.ibx_lsu.specs.Turns.{next_of as ls_next}
+use Rattle.ibx_lsu.specs.Turns.{granted_of, next_of as ls_next}
 use Rattle.ibx_id.specs.declared.stage.Turn.{Turn}
 use Rattle.ibx_id.specs.declared.stage.Turn.TheVariants.{Hold}
-use Rattle.ibx_core.specs.declared.begun.Begun.{Begun}
-use Rattle.ibx_core.specs.declared.cycle.Cycle.{Cycle}
-use Rattle.ibx_core.specs.declared.effect.Effect.{Effect}
 use Rattle.ibx_core.specs.declared.reads.Reads.{Reads}
 use Rattle.ibx_core.specs.declared.sight.Sight.{Sight}
 use Rattle.ibx_core.specs.declared.state.State.{State}
-use Rattle.ibx_core.specs.Effects.{IsEffect, effect_by}
-use Rattle.ibx_core.specs.Entries.{IsEntry, admits_by}
+use Rattle.ibx_core.specs.Effects.{Effect, effect_by, fences, redirects, target_if}
+use Rattle.ibx_core.specs.Entries.{Entry, admits_at, admits_by}
 use Rattle.ibx_core.specs.Fields.{bit}
-use Rattle.ibx_core.specs.Sights.{IsSight, drsp_of, irsp_of, ra_of, rb_of, sight_of}
+use Rattle.ibx_core.specs.Sights.{drsp_of, irsp_of, ra_of, rb_of, sight_of}
 use Rattle.ibx_core.specs.Wires.{InWires, OutWires}
 
 -- ---- what is read, and what of the wires is used
@@ -74,11 +74,22 @@ port_of x i request fence = record { request = request; enable = not (bit_and x.
 abbrev pub no_parcel : Parcel
 no_parcel = record { ready = false; err = false; half = 0 }
 
-unfoldable pub head_by : Option ℕ → WordAns → Prefetch → Head
-head_by None ans f = head_of (fetch_after_answer ans None f)
-head_by (Some target) ans f = record { first = no_parcel; second = no_parcel }
+unfoldable pub head_at : Option ℕ → Prefetch → Head
+head_at None g = head_of g
+head_at (Some target) g = record { first = no_parcel; second = no_parcel }
 
--- what the stage sees, what its turn leaves, the word that answers, what enters, and the word that is requested
+abbrev pub head_by : Option ℕ → WordAns → Prefetch → Head
+head_by redirect ans f = head_at redirect (fetch_after_answer ans redirect f)
+
+-- What a cycle comes to: what the stage sees, what its turn leaves, the word that answers the fetch side, what enters the stage, and
+-- the byte address of the word that is requested.
+pub record Cycle : Type 0 where
+  pub sight : Sight
+  pub effect : Effect
+  pub ans : WordAns
+  pub entry : Entry
+  pub request : Option ℕ
+
 unfoldable pub cycle_with : Sight → Effect → WordAns → State → InWires → Cycle
 cycle_with g e ans x i = record {
   sight = g;
@@ -93,12 +104,6 @@ cycle_seen g x i = cycle_with g (effect_by g.turn x g i.lines) (answer_of x.word
 
 unfoldable pub cycle_of : State → InWires → Cycle
 cycle_of x i = cycle_seen (sight_of x i) x i
-
--- what is known of a cycle by its types: of what the stage sees, of the effect and of what enters
-pub record IsCycle (x : State) (c : Cycle) : Type 0 where
-  pub sight : IsSight x c.sight
-  pub effect : IsEffect x c.effect
-  pub entry : IsEntry c.entry
 
 -- ---- the fields after it
 
@@ -124,6 +129,25 @@ next_by c x i = record {
   csrs = c.effect.csrs;
 }
 
+-- the fetch side's part of it, on the fields as the turn left them: what the word port is handed, and the fields after it, while
+-- nothing is granted
+abbrev pub asked : Sight → WordIn → WordAns → State → WordIn
+asked g port ans y = record port {
+  request = request_of (fetch_after_answer ans (target_if (redirects g.turn) y.next_pc) y.fetch);
+  fence = fences g.turn g.row;
+}
+
+abbrev pub entry_at : Sight → WordAns → ℕ → State → Entry
+entry_at g ans lines y = admits_at g.turn (head_by (target_if (redirects g.turn) y.next_pc) ans y.fetch) y.csrs y.dummies y.next_pc lines
+
+abbrev pub fetch_side : Sight → WordIn → WordAns → ℕ → State → State
+fetch_side g port ans lines y = record y {
+  fetch = prefetch_next ans (target_if (redirects g.turn) y.next_pc) (entry_at g ans lines y).taken y.fetch;
+  words = word_port_next y.words (asked g port ans y) false;
+  id = (entry_at g ans lines y).id;
+  dummies = (entry_at g ans lines y).dummies;
+}
+
 unfoldable pub leaves : State → InWires → State
 leaves x i = next_by (cycle_of x i) x i
 
@@ -135,9 +159,20 @@ core_next x i = leaves x (heard x i)
 abbrev pub before_grants : InWires → InWires
 before_grants i = record i { igrant = false; dgrant = false }
 
--- what was worked out of a cycle as it began is that cycle, whatever is granted
-abbrev pub IsBegun : State → InWires → Begun → Type 0
-IsBegun x i b = (b.cycle ≡ cycle_of x (heard x (before_grants i))) × IsCycle x b.cycle
+-- the fields once a cycle has begun: those after it if nothing is granted
+abbrev pub IsBegun : State → InWires → State → Type 0
+IsBegun x i y = y ≡ core_next x (before_grants i)
+
+-- a request that the word port drove is granted
+abbrev pub granted_port : WordPort → WordPort
+granted_port w = record w { c_state = state_of (granted_by true (doing_of w.c_state)) }
+
+-- what the grants of both ports change of them; that of the data port counts where it drives a request
+abbrev pub granted : Bool → Bool → State → State
+granted igrant dgrant y = record y {
+  words = if igrant then granted_port y.words else y.words;
+  ls = if dgrant then granted_of y.ls else y.ls;
+}
 
 -- ---- the alerts by their causes
 
@@ -181,6 +216,28 @@ tag_ways o = if o.clear then 3 else o.ways
 
 unfoldable pub tag_word : CacheOut → ℕ
 tag_word o = if o.clear then encode_of 22 6 0 else if o.ways == 0 then 0 else encode_of 22 6 (payload_of 22 o.tag)
+
+-- the wires by groups: the data port's request, what is read, the register write with the event, and the word port's
+abbrev pub with_access : OutWires → Req → OutWires
+with_access o r = record o { dreq = r.valid; dwe = r.write; dbe = r.be; daddr = r.addr; dword = r.word }
+
+abbrev pub with_reads : OutWires → Reads → OutWires
+with_reads o r = record o { ra = r.ra; rb = r.rb; line = r.line }
+
+abbrev pub with_effect : OutWires → Option (ℕ × ℕ) → Option Event → OutWires
+with_effect o write happens = record o { rw = is_write write; rwn = write_register write; rwword = write_word write; event = happens }
+
+abbrev pub with_port : OutWires → CacheOut → OutWires
+with_port o p = record o {
+  ireq = p.bus.valid;
+  iaddr = p.bus.addr;
+  tways = tag_ways p;
+  tset = p.set;
+  tword = tag_word p;
+  dways = p.ways;
+  dw0 = p.line0;
+  dw1 = p.line1;
+}
 
 unfoldable pub out_with : CacheOut → ℕ → Reads → Cycle → OutWires
 out_with o alerts r c = record {

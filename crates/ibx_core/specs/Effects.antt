@@ -1,10 +1,9 @@
 -- What the turn of a cycle leaves: the registers, the program counter, a redirect, a register write, and the event. Our own rule; a
 -- row's result is that of the Unprivileged ISA, 2, 7 and 9, and a trap's that of the Privileged ISA 1.12, 3.1.
-use Rattle.std.specs.Prelude.{◌≡◌, ℕ, ◌+◌, ◌*◌, ◌/◌, ◌%◌, ◌^◌, Bool, true, false, ◌==◌, ◌<◌, IfSome, if◌then◌else◌, Option, Some, None}
+use Rattle.std.specs.Prelude.{ℕ, ◌+◌, ◌*◌, ◌/◌, ◌%◌, ◌^◌, Bool, true, false, ◌==◌, if◌then◌else◌, Option, Some, None}
 use Rattle.ibx_isa.specs.declared.event.Access.{Access}
 use Rattle.ibx_isa.specs.declared.event.Event.{Event}
 use Rattle.ibx_isa.specs.declared.event.Event.TheVariants as event
-use Rattle.ibx_isa.specs.Events.{IsPrintable, IsStore}
 use Rattle.ibx_isa.specs.declared.insn.Insn.{Insn}
 use Rattle.ibx_isa.specs.declared.insn.CsrOp.{CsrOp}
 use Rattle.ibx_isa.specs.declared.insn.Insn.TheVariants.{Lui, Auipc, Jal, Jalr, Branch, Load, AluImm, Alu, MulDiv, Csr, FenceI, Mret}
@@ -14,6 +13,7 @@ use Rattle.ibx_isa.specs.CsrWrites.{writes, written}
 use Rattle.ibx_isa.specs.Lengths.{is_long}
 use Rattle.ibx_isa.specs.Portions.{gather_of, portion_addr}
 use Rattle.ibx_csr.specs.declared.csrs.Csrs.{Csrs}
+use Rattle.ibx_dummy.specs.declared.unit.Dummy.{Dummy as DummyUnit}
 use Rattle.ibx_csr.specs.Bits.{is_control_at}
 use Rattle.ibx_csr.specs.Fields.{values, tick_of, with_regs, write_of}
 use Rattle.ibx_csr.specs.Values.{csr_read, trap_regs}
@@ -23,11 +23,34 @@ use Rattle.ibx_muldiv.specs.Unit.{result_of}
 use Rattle.ibx_id.specs.declared.stage.IdState.{IdState}
 use Rattle.ibx_id.specs.declared.stage.Turn.{Turn}
 use Rattle.ibx_id.specs.declared.stage.Turn.TheVariants.{Idle, Hold, Retire, Trap, Irq, Dummy}
-use Rattle.ibx_core.specs.declared.effect.Effect.{Effect}
-use Rattle.ibx_core.specs.declared.outcome.Outcome.{Outcome}
+use Rattle.ibx_core.specs.declared.outcome.Yield.{Yield}
 use Rattle.ibx_core.specs.declared.sight.Sight.{Sight}
 use Rattle.ibx_core.specs.declared.state.State.{State}
 use Rattle.ibx_core.specs.Sights.{is_fixed, stage_word}
+
+-- ---- what is left
+
+-- What an instruction comes to that retires: the register that is written, 0 for none, and its value; the value handed to the write
+-- of a CSR that controls the core; the address of the next instruction; the registers after it; and whether it is a FENCE.I.
+pub record Outcome : Type 0 where
+  pub rd : ℕ
+  pub value : ℕ
+  pub ctl : Option ℕ
+  pub next_pc : ℕ
+  pub csrs : Csrs
+  pub dummies : DummyUnit
+  pub fence : Bool
+
+-- What the turn of a cycle leaves: the registers; the address of the next real instruction; where the fetch side begins anew; the
+-- register that is written, and its value; whether a FENCE.I retires; and the event, with the cycle 0.
+pub record Effect : Type 0 where
+  pub csrs : Csrs
+  pub dummies : DummyUnit
+  pub next_pc : ℕ
+  pub redirect : Option ℕ
+  pub write : Option (ℕ × ℕ)
+  pub fence : Bool
+  pub happens : Option Event
 
 -- ---- an instruction that retires
 
@@ -85,9 +108,20 @@ abbrev pub target_if : Bool → ℕ → Option ℕ
 target_if true target = Some target
 target_if false target = None
 
+-- what it gives to its event and to the register file
+abbrev pub yield_of : Outcome → Yield
+yield_of o = record { rd = o.rd; value = o.value; ctl = o.ctl }
+
 -- its event: x0 isn't written, and the operands are told where timing may depend on them
+abbrev pub retirement_by : IdState → Sight → Yield → Bool → Event
+retirement_by st g y fixed = event.Retire 0 st.pc (stage_word st) y.rd (if y.rd == 0 then 0 else y.value) g.access y.ctl (if fixed then None else Some (g.a, g.b))
+
 abbrev pub retirement_of : State → Sight → Outcome → Event
-retirement_of x g o = event.Retire 0 x.id.pc (stage_word x.id) o.rd (if o.rd == 0 then 0 else o.value) g.access o.ctl (if is_fixed x.csrs then None else Some (g.a, g.b))
+retirement_of x g o = retirement_by x.id g (yield_of o) (is_fixed x.csrs)
+
+-- the register that it writes, and its value
+abbrev pub written_by : Outcome → Option (ℕ × ℕ)
+written_by o = if o.rd == 0 then None else Some (o.rd, o.value)
 
 unfoldable pub retires : State → Sight → Bool → Outcome → Effect
 retires x g redirect o = record {
@@ -95,7 +129,7 @@ retires x g redirect o = record {
   dummies = o.dummies;
   next_pc = o.next_pc;
   redirect = target_if redirect o.next_pc;
-  write = if o.rd == 0 then None else Some (o.rd, o.value);
+  write = written_by o;
   fence = o.fence;
   happens = Some (retirement_of x g o);
 }
@@ -158,16 +192,27 @@ effect_by (Trap portion) x g lines =
     cause_fails x (cause_or g.cause)
 effect_by (Retire redirect) x g lines = retires x g redirect (outcome_by g.row x g lines)
 
--- ---- widths
+-- ---- the fields that it moves, and what follows from the turn alone
 
--- the register is below 32, a store has none, and the dummies' count stays
-pub record IsOutcome (x : State) (g : Sight) (o : Outcome) : Type 0 where
-  pub rd : o.rd < 32
-  pub stores : IsStore g.access → o.rd ≡ 0
-  pub dummies : o.dummies.dcount ≡ x.dummies.dcount
+-- the fields after an instruction that retires, and after a turn
+abbrev pub carried : State → Outcome → State
+carried x o = record x { csrs = o.csrs; dummies = o.dummies; next_pc = o.next_pc }
 
--- the same of an effect, whose event has a line
-pub record IsEffect (x : State) (e : Effect) : Type 0 where
-  pub write : IfSome e.write (λ w. w.0 < 32)
-  pub dummies : e.dummies.dcount ≡ x.dummies.dcount
-  pub printable : IfSome e.happens IsPrintable
+abbrev pub left : State → Effect → State
+left x e = record x { csrs = e.csrs; dummies = e.dummies; next_pc = e.next_pc }
+
+-- a turn that redirects does so to the next instruction
+abbrev pub redirects : Turn → Bool
+redirects Irq = true
+redirects (Trap portion) = true
+redirects (Retire redirect) = redirect
+redirects turn = false
+
+-- a FENCE.I that retires
+abbrev pub is_fence : Option Insn → Bool
+is_fence (Some FenceI) = true
+is_fence row = false
+
+abbrev pub fences : Turn → Option Insn → Bool
+fences (Retire redirect) row = is_fence row
+fences turn row = false

@@ -15,8 +15,14 @@ use Rattle.ibx_id.specs.declared.stage.IdState.{IdState}
 use Rattle.ibx_id.specs.declared.stage.Turn.{Turn}
 use Rattle.ibx_id.specs.declared.stage.Turn.TheVariants.{Hold}
 use Rattle.ibx_id.specs.Turns.{IsWithinWidths, empty_stage}
-use Rattle.ibx_core.specs.declared.effect.Effect.{Effect}
-use Rattle.ibx_core.specs.declared.admit.Entry.{Entry}
+use Rattle.ibx_core.specs.declared.state.State.{State}
+use Rattle.ibx_core.specs.Effects.{Effect}
+
+-- what the stage holds in the next cycle, the parcels, 0 to 2, that leave the buffer, and the dummies after it
+pub record Entry : Type 0 where
+  pub id : IdState
+  pub taken : ℕ
+  pub dummies : DummyUnit
 
 -- an item in its first cycle
 abbrev pub enters : ℕ → ℕ → ℕ → ℕ → IdState
@@ -57,11 +63,14 @@ entry_by (Some number) due h c d pc = record { id = enters 2 pc number 0; taken 
 entry_by None true h c d pc = record { id = enters 1 pc (dummy_word d.lfsr) 0; taken = 0; dummies = inserted d }
 entry_by None false h c d pc = fetched_of h c d pc
 
--- while the item is held nothing enters; all else is as this cycle's event left it
-unfoldable pub admits_by : Turn → Head → Effect → ℕ → Entry
-admits_by (Hold st) h e lines = record { id = st; taken = 0; dummies = e.dummies }
-admits_by _ h e lines =
-    entry_by (pending_of e.csrs.priv_ e.csrs.mstatus e.csrs.mie lines) (is_due (enables_dummies e.csrs) (dummy_mask e.csrs) e.dummies) h e.csrs e.dummies e.next_pc
+-- while the item is held nothing enters
+unfoldable pub admits_at : Turn → Head → Csrs → DummyUnit → ℕ → ℕ → Entry
+admits_at (Hold st) h c d pc lines = record { id = st; taken = 0; dummies = d }
+admits_at _ h c d pc lines = entry_by (pending_of c.priv_ c.mstatus c.mie lines) (is_due (enables_dummies c) (dummy_mask c) d) h c d pc
+
+-- all else is as this cycle's event left it
+abbrev pub admits_by : Turn → Head → Effect → ℕ → Entry
+admits_by turn h e lines = admits_at turn h e.csrs e.dummies e.next_pc lines
 
 -- ---- widths
 
@@ -70,3 +79,7 @@ pub record IsEntry (n : Entry) : Type 0 where
   pub id : IsWithinWidths n.id
   pub taken : n.taken ≤ 2
   pub dummies : n.dummies.dcount < 2 ^ 5
+
+-- the fields once it has entered
+abbrev pub entered : State → Entry → State
+entered x n = record x { id = n.id; dummies = n.dummies }

@@ -1,39 +1,27 @@
-ghost use Rattle.std.specs.Prelude.{◌≡◌, ◌≤◌, ◌<◌, ◌^◌, ◌==◌, IfSome, if◌then◌else◌};
-ghost use Rattle.ibx_icache.specs.WordPort.{IsInput, answer_of, word_in};
+ghost use Rattle.std.specs.Prelude.{◌≡◌, ◌≤◌, ◌<◌, ◌^◌, ◌%◌, ◌==◌, ◌&&◌, IfSome, None, Some, false, true, if◌then◌else◌};
+ghost use Rattle.ibx_isa.specs.Events.{IsPrintable};
+ghost use Rattle.ibx_icache.specs.WordPort.{IsInput, look_of, met_of, out_of, word_in};
 ghost use Rattle.ibx_muldiv.specs.Unit.{left_of, tick_of};
-ghost use Rattle.ibx_core.specs.Core.{IsCycle, before_grants, core_next, cycle_of, cycle_seen, cycle_with, head_by, heard, leaves, look_in, ls_by, md_next, next_by, port_of};
-ghost use Rattle.ibx_core.specs.Effects.{IsEffect};
+ghost use Rattle.ibx_id.specs.Turns.{IsWithinWidths};
+ghost use Rattle.ibx_id.specs.declared.stage.IdState.{IdState};
+ghost use Rattle.ibx_id.specs.declared.stage.Turn.TheVariants.{Hold};
+ghost use Rattle.ibx_core.specs.Core.{asked, before_grants, core_next, core_out, cycle_seen, fetch_side, gives, granted, head_at, leaves, look_in, ls_by, md_next, next_by, out_by, port_of, with_port};
+ghost use Rattle.ibx_core.specs.Effects.{fences, redirects, target_if};
 ghost use Rattle.ibx_core.specs.Fields.{Fits};
 ghost use Rattle.ibx_core.specs.Sights.{IsSight, irsp_of, row_of};
 
-use crate::admit::{Entry, admit};
-use crate::effect::Effect;
+use crate::output::{put_access, put_port, put_reads};
 use crate::sight::{Sight, data_answer};
 use crate::state::State;
-use crate::wires::In;
-use ibx_icache::{CacheIn, WordAns};
+use crate::wires::{In, Out};
+use ibx_icache::{CacheIn, Met};
 use ibx_id::Turn;
 use ibx_isa::control::ICACHE_ENABLE;
-use ibx_isa::{Access, Rsp};
-use ibx_lsu::Lsu;
+use ibx_isa::{Insn, Rsp};
 use ibx_muldiv::MulDiv;
 use ibx_prefetch::{Head, Parcel, Prefetch};
 
-/// What a cycle comes to, from the fields and the wires.
-#[derive(Clone, Copy)]
-pub struct Cycle {
-    /// What the stage sees.
-    pub sight: Sight,
-    /// What its turn leaves.
-    pub effect: Effect,
-    /// The word that answers the fetch side.
-    pub ans: WordAns,
-    /// What enters the stage.
-    pub entry: Entry,
-    /// The byte address of the word that is requested.
-    pub request: Option<u32>,
-}
-
+#[inline(always)]
 pub fn instruction_answer(i: &In) -> Rsp
     ensures value { result ≡ irsp_of i.now }
     ensures fits { result.word < 2 ^ 39 }
@@ -45,29 +33,25 @@ pub fn instruction_answer(i: &In) -> Rsp
     }
 }
 
-/// What the word port is handed.
+// What the word port is handed before the request of the cycle is known. Whether the cache is enabled is as the events
+// before this cycle left it.
+#[inline(always)]
 #[tactic(auto, unfolding(crate::specs::Core::port_of))]
-pub fn cache_in(x: &State, i: &In, request: Option<u32>, fence: bool, granted: bool) -> CacheIn
-    ensures value { word_in result ≡ port_of x.now i.now request fence }
+fn cache_in(x: &State, i: &In) -> CacheIn
+    ensures value { word_in result ≡ port_of x.now i.now None false }
+    ensures rsp { result.rsp ≡ irsp_of i.now }
+    ensures look { look_of result.tags result.lanes ≡ look_in i.now }
     ensures fits { IsInput result }
-    ensures granted { result.granted ≡ granted }
 {
     CacheIn {
-        request,
+        request: None,
         enable: x.csrs.cpuctrl & ICACHE_ENABLE != 0,
-        fence,
+        fence: false,
         rsp: instruction_answer(i),
         tags: [i.tag0 as u64, i.tag1 as u64],
         lanes: [i.data0, i.data1],
-        granted,
+        granted: false,
     }
-}
-
-#[tactic(auto, unfolding(crate::specs::Core::port_of))]
-fn answer(x: &State, i: &In) -> WordAns
-    ensures { result ≡ answer_of x.now.words (irsp_of i.now) (look_in i.now) }
-{
-    x.words.answer(&cache_in(x, i, None, false, false))
 }
 
 const NO_PARCEL: Parcel = Parcel {
@@ -77,12 +61,13 @@ const NO_PARCEL: Parcel = Parcel {
 };
 
 // The next two parcels; in the cycle of a redirect none is ready.
-#[tactic(auto, unfolding(crate::specs::Core::head_by))]
-fn head(redirect: Option<u32>, ans: &WordAns, fetch: &Prefetch) -> Head
-    ensures { result ≡ head_by redirect ans.now fetch.now }
+#[inline(always)]
+#[tactic(auto, unfolding(crate::specs::Core::head_at))]
+fn head(redirect: Option<u32>, fetch: &Prefetch) -> Head
+    ensures { result ≡ head_at redirect fetch.now }
 {
     match redirect {
-        None => fetch.head(ans),
+        None => fetch.held_head(),
         Some(_) => Head {
             first: NO_PARCEL,
             second: NO_PARCEL,
@@ -90,50 +75,29 @@ fn head(redirect: Option<u32>, ans: &WordAns, fetch: &Prefetch) -> Head
     }
 }
 
-#[tactic(auto, unfolding(crate::specs::Core::cycle_with))]
-fn admitted(g: &Sight, e: &Effect, ans: &WordAns, x: &State, i: &In) -> Cycle
-    requires fields { Fits x.now }
-    requires sight { IsSight x.now g.now }
-    requires effect { IsEffect x.now e.now }
-    ensures value { result ≡ cycle_with g.now e.now ans.now x.now i.now }
-    ensures sight { result.sight ≡ g.now }
-    ensures fits { IsCycle x.now result }
+// Where the fetch side begins anew: at the next instruction, where the turn redirects.
+#[inline(always)]
+fn redirect(turn: &Turn, next_pc: u32) -> Option<u32>
+    ensures { result ≡ target_if (redirects turn.now) next_pc }
 {
-    let head = head(e.redirect, ans, &x.fetch);
-    Cycle {
-        sight: *g,
-        effect: *e,
-        ans: *ans,
-        entry: admit(&g.turn, &head, e, i.lines),
-        request: x.fetch.request(ans, e.redirect),
+    match *turn {
+        Turn::Irq | Turn::Trap { .. } | Turn::Retire { redirect: true } => Some(next_pc),
+        _ => None,
     }
 }
 
-#[tactic(auto, unfolding(crate::specs::Core::cycle_seen))]
-fn done(g: &Sight, x: &State, i: &In) -> Cycle
-    requires fields { Fits x.now }
-    requires sight { IsSight x.now g.now }
-    ensures value { result ≡ cycle_seen g.now x.now i.now }
-    ensures sight { result.sight ≡ g.now }
-    ensures fits { IsCycle x.now result }
+#[inline(always)]
+fn is_fence(turn: &Turn, row: Option<Insn>) -> bool
+    ensures { result ≡ fences turn.now row }
 {
-    admitted(g, &Effect::of(x, g, i.lines), &answer(x, i), x, i)
-}
-
-impl Cycle {
-    /// What a cycle comes to.
-    #[tactic(auto, unfolding(crate::specs::Core::cycle_of))]
-    pub fn of(x: &State, i: &In) -> Cycle
-        requires { Fits x.now }
-        ensures value { result ≡ cycle_of x.now i.now }
-        ensures row { result.sight.row ≡ row_of x.now.id }
-        ensures fits { IsCycle x.now result }
-    {
-        done(&Sight::of(x, i), x, i)
+    match (*turn, row) {
+        (Turn::Retire { .. }, Some(Insn::FenceI)) => true,
+        _ => false,
     }
 }
 
 // An operation goes on while its row is held.
+#[inline(always)]
 #[tactic(auto, unfolding(crate::specs::Core::md_next))]
 fn next_unit(turn: &Turn, unit: &MulDiv) -> MulDiv
     ensures { result ≡ md_next turn.now unit.now }
@@ -154,74 +118,139 @@ fn ticked(unit: &MulDiv) -> MulDiv
     after
 }
 
-// An access moves while it is active.
-#[tactic(auto, unfolding(crate::specs::Core::ls_by))]
-fn next_access(c: &Sight, ls: &Lsu, rsp: &Rsp, granted: bool) -> Lsu
-    requires size { IfSome c.now.access (λ w. w.size ≤ 4) }
-    requires word { rsp.now.word < 2 ^ 39 }
-    ensures value { result ≡ ls_by c.now.active c.now.access ls.now rsp.now granted }
-    ensures fits { ls.now.ls_state < 2 ^ 3 → result.ls_state < 2 ^ 3 }
-{
-    let mut after = *ls;
-    match c.access {
-        Some(want) if c.active => after.advance(&want, rsp, granted),
-        _ => {}
-    }
-    after
-}
-
 impl State {
-    // Moves the fields by what a cycle comes to.
-    #[tactic(auto, unfolding(crate::specs::Core::next_by))]
-    fn move_by(&mut self, c: &Cycle, i: &In)
-        requires fields { Fits self.old }
-        requires cycle { IsCycle self.old c.now }
-        ensures value { self.new ≡ next_by c.now self.old i.now }
-        ensures fits { Fits self.new }
+    // An access moves while it is active; its request isn't granted yet.
+    #[inline(always)]
+    #[tactic(auto, unfolding(crate::specs::Core::ls_by))]
+    fn move_access(&mut self, g: &Sight, rsp: &Rsp)
+        requires size { IfSome g.now.access (λ w. w.size ≤ 4) }
+        requires word { rsp.now.word < 2 ^ 39 }
+        ensures value { self.new ≡ record self.old { ls = ls_by g.now.active g.now.access self.old.ls rsp.now false } }
+        ensures fits { self.old.ls.ls_state < 2 ^ 3 → self.new.ls.ls_state < 2 ^ 3 }
     {
-        let words = cache_in(self, i, c.request, c.effect.fence, i.igrant);
-        self.fetch.advance(&c.ans, c.effect.redirect, c.entry.taken);
-        self.words.advance(&words);
-        self.id = c.entry.id;
-        self.md = next_unit(&c.sight.turn, &c.sight.md);
-        self.ls = next_access(&c.sight, &self.ls, &data_answer(i), i.dgrant);
-        self.dummies = c.entry.dummies;
-        self.next_pc = c.effect.next_pc;
-        self.csrs = c.effect.csrs;
+        match g.access {
+            Some(want) if g.active => self.ls.advance(&want, rsp, false),
+            _ => {}
+        }
     }
 
-    // Moves the fields by the cycle with these wires.
-    #[tactic(auto, unfolding(crate::specs::Core::leaves))]
-    fn move_on(&mut self, i: &In)
+    // The fetch side's part of a cycle: what answers, what enters the stage, the next request, and the word port.
+    #[inline(always)]
+    #[tactic(auto, unfolding(ibx_prefetch::specs::Buffer::prefetch_next))]
+    fn fetch_on(&mut self, g: &Sight, cache: &mut CacheIn, met: &Met, lines: u32, o: &mut Out)
+        requires fields { Fits self.old }
+        requires held { (next : IdState) → g.now.turn ≡ Hold next → IsWithinWidths next }
+        requires input { IsInput cache.old }
+        requires met { met.now ≡ met_of self.old.words cache.old.rsp (look_of cache.old.tags cache.old.lanes) }
+        ensures moved { self.new ≡ fetch_side g.now (word_in cache.old) met.now.ans lines self.old }
+        ensures output { o.new ≡ with_port o.old (out_of self.old.words (asked g.now (word_in cache.old) met.now.ans self.old)) }
+        ensures fetched { o.new.iaddr % 4 ≡ 0 }
+        ensures fits { Fits self.new }
+    {
+        let redirect = redirect(&g.turn, self.next_pc);
+        self.fetch.hear(&met.ans, redirect);
+        let head = head(redirect, &self.fetch);
+        let taken = self.admit(&g.turn, &head, lines);
+        cache.request = self.fetch.next_request();
+        cache.fence = is_fence(&g.turn, g.row);
+        self.fetch.end(taken);
+        put_port(o, &self.words.turn(cache, met));
+    }
+
+    // A cycle by what the stage sees, while nothing is granted.
+    #[inline(always)]
+    #[tactic(auto, unfolding(crate::specs::Core::cycle_seen, crate::specs::Core::cycle_with, crate::specs::Core::next_by, crate::specs::Core::out_by, crate::specs::Core::out_with, crate::specs::Core::port_of), using(crate::proofs::Turns::redirect_is, crate::proofs::Turns::fence_is, crate::proofs::Tags::bad_is))]
+    fn work(&mut self, g: &Sight, i: &In, o: &mut Out)
+        requires fields { Fits self.old }
+        requires sight { IsSight self.old g.now }
+        requires row { g.now.row ≡ row_of self.old.id }
+        ensures moved { self.new ≡ next_by (cycle_seen g.now self.old i.now) self.old (before_grants i.now) }
+        ensures output { o.new ≡ out_by (cycle_seen g.now self.old i.now) self.old i.now }
+        ensures fits { Fits self.new }
+        ensures fetched { o.new.iaddr % 4 ≡ 0 }
+        ensures accessed { o.new.daddr % 4 ≡ 0 }
+        ensures printable { IfSome o.new.event IsPrintable }
+    {
+        let mut cache = cache_in(self, i);
+        let met = self.words.meet(&cache);
+        o.alerts = self.alerts(i, met.bad);
+        put_reads(o, &self.reads_by(g.row));
+        put_access(o, &g.ls.req);
+        self.take(g, i.lines, o);
+        self.fetch_on(g, &mut cache, &met, i.lines, o);
+        self.move_access(g, &data_answer(i));
+        self.md = next_unit(&g.turn, &g.md);
+    }
+
+    // The same with the wires as they are heard.
+    #[inline(always)]
+    #[tactic(auto, unfolding(crate::specs::Core::leaves, crate::specs::Core::gives, crate::specs::Core::cycle_of), using(crate::proofs::Laws::seen_ungranted))]
+    fn work_heard(&mut self, i: &In, o: &mut Out)
         requires { Fits self.old }
-        ensures value { self.new ≡ leaves self.old i.now }
+        ensures moved { self.new ≡ leaves self.old (before_grants i.now) }
+        ensures output { o.new ≡ gives self.old i.now }
         ensures fits { Fits self.new }
+        ensures fetched { o.new.iaddr % 4 ≡ 0 }
+        ensures accessed { o.new.daddr % 4 ≡ 0 }
+        ensures printable { IfSome o.new.event IsPrintable }
     {
-        let cycle = Cycle::of(self, i);
-        self.move_by(&cycle, i);
+        let g = Sight::of(self, i);
+        self.work(&g, i, o);
     }
 
-    /// Ends a cycle that was worked out as it began.
-    #[tactic(auto, unfolding(crate::specs::Core::core_next, crate::specs::Core::leaves), using(crate::proofs::Laws::cycle_ungranted))]
-    pub fn finish(&mut self, c: &Cycle, i: &In)
-        requires fields { Fits self.old }
-        requires same { c.now ≡ cycle_of self.old (heard self.old (before_grants i.now)) }
-        requires cycle { IsCycle self.old c.now }
-        ensures value { self.new ≡ core_next self.old i.now }
+    /// Begins a cycle: puts out what the core puts out, and moves the fields as if nothing were granted.
+    #[tactic(auto, unfolding(crate::specs::Core::core_next, crate::specs::Core::core_out, crate::specs::Core::heard))]
+    pub fn begin(&mut self, i: &In, o: &mut Out)
+        requires { Fits self.old }
+        ensures begun { self.new ≡ core_next self.old (before_grants i.now) }
+        ensures output { o.new ≡ core_out self.old i.now }
         ensures fits { Fits self.new }
+        ensures fetched { o.new.iaddr % 4 ≡ 0 }
+        ensures accessed { o.new.daddr % 4 ≡ 0 }
+        ensures printable { IfSome o.new.event IsPrintable }
     {
         let heard = self.heard(i);
-        self.move_by(c, &heard);
+        self.work_heard(&heard, o);
+    }
+
+    /// Ends a cycle that has begun, by its grants; that of the data port counts where it drives a request.
+    #[inline(always)]
+    pub fn finish(&mut self, i: &In, o: &Out)
+        requires { Fits self.old }
+        ensures value { self.new ≡ granted i.now.igrant (i.now.dgrant && o.now.dreq) self.old }
+        ensures fits { Fits self.new }
+    {
+        if i.igrant {
+            self.words.grant();
+        }
+        if i.dgrant && o.dreq {
+            self.ls.grant();
+        }
+    }
+
+    /// What the core puts out in a cycle.
+    pub fn out(&self, i: &In) -> Out
+        requires { Fits self.now }
+        ensures value { result ≡ core_out self.now i.now }
+        ensures fetched { result.iaddr % 4 ≡ 0 }
+        ensures accessed { result.daddr % 4 ≡ 0 }
+        ensures printable { IfSome result.event IsPrintable }
+    {
+        let mut after = *self;
+        let mut o = Out::quiet();
+        after.begin(i, &mut o);
+        o
     }
 
     /// Ends a cycle.
-    #[tactic(auto, unfolding(crate::specs::Core::core_next))]
+    #[tactic(auto, using(crate::proofs::Laws::grants_last))]
     pub fn advance(&mut self, i: &In)
         requires { Fits self.old }
         ensures value { self.new ≡ core_next self.old i.now }
         ensures fits { Fits self.new }
     {
-        let heard = self.heard(i);
-        self.move_on(&heard);
+        let mut o = Out::quiet();
+        self.begin(i, &mut o);
+        self.finish(i, &o);
     }
 }

@@ -1,135 +1,66 @@
-ghost use Rattle.std.specs.Prelude.{◌≡◌, ◌<◌, None, false};
+ghost use Rattle.std.specs.Prelude.{◌≡◌, ◌<◌, ◌^◌, ◌==◌, IfSome, None, Some, false, if◌then◌else◌};
+ghost use Rattle.ibx_isa.specs.Events.{IsPrintable};
 ghost use Rattle.ibx_csr.specs.Fields.{tick_of, with_regs};
-ghost use Rattle.ibx_core.specs.Effects.{IsEffect, IsOutcome, access_or, cause_fails, cause_or, effect_by, fails, interrupts, portion_fails, rests, retirement_of, retires, target_if, trap_value_of};
+ghost use Rattle.ibx_core.specs.Core.{with_effect};
+ghost use Rattle.ibx_core.specs.Effects.{access_or, carried, cause_fails, cause_or, effect_by, fails, interrupts, left, outcome_by, portion_fails, rests, retirement_by, retirement_of, trap_value_of, written_by};
 ghost use Rattle.ibx_core.specs.Sights.{IsSight};
 
-use crate::outcome::Outcome;
+use crate::outcome::Yield;
 use crate::reads::stage_word;
 use crate::sight::{Sight, is_fixed};
 use crate::state::State;
-use ibx_csr::Csrs;
-use ibx_dummy::Dummy;
-use ibx_id::Turn;
+use crate::wires::Out;
+use ibx_id::{IdState, Turn};
 use ibx_isa::cause::{FETCH_FAULT, ILLEGAL_INSTRUCTION, LOAD_FAULT, STORE_FAULT};
 use ibx_isa::{Access, Event, TrapRegs, portion_start};
+use ibx_secded::Code;
 use ibx_trap::enter;
 
-/// What the turn of a cycle leaves.
-#[derive(Clone, Copy)]
-pub struct Effect {
-    pub csrs: Csrs,
-    pub dummies: Dummy,
-    /// The address of the next real instruction.
-    pub next_pc: u32,
-    /// Where the fetch side begins anew.
-    pub redirect: Option<u32>,
-    /// The register that is written, and its value.
-    pub write: Option<(u8, u32)>,
-    /// Whether a FENCE.I retires.
-    pub fence: bool,
-    /// The event, with the cycle 0.
-    pub happens: Option<Event>,
-}
-
-fn target(redirect: bool, next_pc: u32) -> Option<u32>
-    ensures { result ≡ target_if redirect next_pc }
-{
-    if redirect { Some(next_pc) } else { None }
-}
-
-// The event of an instruction that retires.
-fn retirement(x: &State, g: &Sight, o: &Outcome) -> Event
-    ensures { result ≡ retirement_of x.now g.now o.now }
+// The event of an instruction that retires; `fixed` is that timing doesn't depend on its operands.
+#[inline(always)]
+fn retirement(st: &IdState, g: &Sight, yields: &Yield, fixed: bool) -> Event
+    ensures { result ≡ retirement_by st.now g.now yields.now fixed }
 {
     Event::Retire {
         cycle: 0,
-        pc: x.id.pc,
-        word: stage_word(&x.id),
-        rd: o.rd,
-        value: if o.rd == 0 { 0 } else { o.value },
+        pc: st.pc,
+        word: stage_word(st),
+        rd: yields.rd,
+        value: if yields.rd == 0 { 0 } else { yields.value },
         mem: g.access,
-        ctl: o.ctl,
-        ops: if is_fixed(&x.csrs) {
-            None
-        } else {
-            Some((g.a, g.b))
-        },
+        ctl: yields.ctl,
+        ops: if fixed { None } else { Some((g.a, g.b)) },
     }
 }
 
-#[tactic(auto, unfolding(crate::specs::Effects::retires))]
-fn retire(x: &State, g: &Sight, redirect: bool, o: &Outcome) -> Effect
-    requires { IsOutcome x.now g.now o.now }
-    ensures value { result ≡ retires x.now g.now redirect o.now }
-    ensures fits { IsEffect x.now result }
+// No register is written, and nothing or a trap is done.
+#[inline(always)]
+#[tactic(auto, unfolding(crate::specs::Core::write_word))]
+fn put_event(o: &mut Out, event: Option<Event>)
+    ensures { o.new ≡ with_effect o.old None event }
 {
-    Effect {
-        csrs: o.csrs,
-        dummies: o.dummies,
-        next_pc: o.next_pc,
-        redirect: target(redirect, o.next_pc),
-        write: if o.rd == 0 {
-            None
-        } else {
-            Some((o.rd, o.value))
-        },
-        fence: o.fence,
-        happens: Some(retirement(x, g, o)),
-    }
+    o.rw = false;
+    o.rwn = 0;
+    o.rwword = 0;
+    o.event = event;
 }
 
-#[tactic(auto, unfolding(crate::specs::Effects::rests))]
-fn rest(x: &State) -> Effect
-    ensures value { result ≡ rests x.now }
-    ensures fits { IsEffect x.now result }
+// An instruction retires, and writes its register, if any.
+#[inline(always)]
+#[tactic(auto, unfolding(crate::specs::Core::write_word))]
+fn put_retirement(o: &mut Out, yields: &Yield, event: Event)
+    requires { yields.now.rd < 32 }
+    ensures { o.new ≡ with_effect o.old (if yields.now.rd == 0 then None else Some (yields.now.rd, yields.now.value)) (Some event) }
 {
-    let mut csrs = x.csrs;
-    csrs.tick(false, None);
-    Effect {
-        csrs,
-        dummies: x.dummies,
-        next_pc: x.next_pc,
-        redirect: None,
-        write: None,
-        fence: false,
-        happens: None,
-    }
-}
-
-fn trapped(csrs: &Csrs, regs: &TrapRegs) -> Csrs
-    ensures { result ≡ with_regs (tick_of csrs.now false None) regs.now }
-{
-    let mut after = *csrs;
-    after.tick(false, None);
-    after.set_regs(regs);
-    after
-}
-
-// A trap with this cause and value, of an access at `addr`.
-#[tactic(auto, unfolding(crate::specs::Effects::fails))]
-fn fail(x: &State, cause: u8, tval: u32, addr: u32) -> Effect
-    ensures value { result ≡ fails x.now cause tval addr }
-    ensures fits { IsEffect x.now result }
-{
-    let (regs, target) = enter(&x.csrs.regs(), x.id.pc, cause, false, tval);
-    Effect {
-        csrs: trapped(&x.csrs, &regs),
-        next_pc: target,
-        redirect: Some(target),
-        happens: Some(Event::Trap {
-            cycle: 0,
-            pc: x.id.pc,
-            word: if cause == FETCH_FAULT {
-                0
-            } else {
-                stage_word(&x.id)
-            },
-            cause,
-            tval,
-            addr,
-        }),
-        ..rest(x)
-    }
+    let written = yields.rd != 0;
+    o.rw = written;
+    o.rwn = yields.rd;
+    o.rwword = if written {
+        Code::<32, 7>::encode(yields.value as u64)
+    } else {
+        0
+    };
+    o.event = Some(event);
 }
 
 fn access(g: &Sight) -> Access
@@ -146,36 +77,6 @@ fn access(g: &Sight) -> Access
     }
 }
 
-// A portion of an access failed.
-#[tactic(auto, unfolding(crate::specs::Effects::portion_fails))]
-fn fail_portion(x: &State, want: &Access, second: bool) -> Effect
-    ensures value { result ≡ portion_fails x.now want.now second }
-    ensures fits { IsEffect x.now result }
-{
-    let cause = if want.store { STORE_FAULT } else { LOAD_FAULT };
-    fail(x, cause, portion_start(want.addr, second), want.addr)
-}
-
-// What a trap for another cause puts into mtval.
-fn trap_value(x: &State, cause: u8) -> u32
-    ensures { result ≡ trap_value_of x.now cause }
-{
-    match cause {
-        FETCH_FAULT if x.id.fault == 2 => x.id.pc.wrapping_add(2),
-        FETCH_FAULT => x.id.pc,
-        ILLEGAL_INSTRUCTION => stage_word(&x.id),
-        _ => 0,
-    }
-}
-
-#[tactic(auto, unfolding(crate::specs::Effects::cause_fails))]
-fn fail_cause(x: &State, cause: u8) -> Effect
-    ensures value { result ≡ cause_fails x.now cause }
-    ensures fits { IsEffect x.now result }
-{
-    fail(x, cause, trap_value(x, cause), 0)
-}
-
 fn cause(g: &Sight) -> u8
     ensures { result ≡ cause_or g.now.cause }
 {
@@ -185,40 +86,146 @@ fn cause(g: &Sight) -> u8
     }
 }
 
-#[tactic(auto, unfolding(crate::specs::Effects::interrupts))]
-fn interrupt(x: &State, number: u8) -> Effect
-    ensures value { result ≡ interrupts x.now number }
-    ensures fits { IsEffect x.now result }
-{
-    let (regs, target) = enter(&x.csrs.regs(), x.id.pc, number, true, 0);
-    Effect {
-        csrs: trapped(&x.csrs, &regs),
-        next_pc: target,
-        redirect: Some(target),
-        happens: Some(Event::Irq {
-            cycle: 0,
-            pc: x.id.pc,
-            cause: number,
-        }),
-        ..rest(x)
+impl State {
+    #[inline(always)]
+    fn retire(&mut self, g: &Sight, lines: u32, o: &mut Out)
+        requires { IsSight self.old g.now }
+        ensures fields { self.new ≡ carried self.old (outcome_by g.now.row self.old g.now lines) }
+        ensures wires { o.new ≡ with_effect o.old (written_by (outcome_by g.now.row self.old g.now lines)) (Some (retirement_of self.old g.now (outcome_by g.now.row self.old g.now lines))) }
+        ensures count { self.new.dummies.dcount ≡ self.old.dummies.dcount }
+        ensures printable { IfSome o.new.event IsPrintable }
+    {
+        let fixed = is_fixed(&self.csrs);
+        let yields = self.carry_out(g, lines);
+        let event = retirement(&self.id, g, &yields, fixed);
+        put_retirement(o, &yields, event);
     }
-}
 
-impl Effect {
-    /// What the turn leaves.
-    #[tactic(auto, unfolding(crate::specs::Effects::effect_by))]
-    pub fn of(x: &State, g: &Sight, lines: u32) -> Effect
-        requires { IsSight x.now g.now }
-        ensures value { result ≡ effect_by g.now.turn x.now g.now lines }
-        ensures fits { IsEffect x.now result }
+    #[inline(always)]
+    #[tactic(auto, unfolding(crate::specs::Effects::rests))]
+    fn rest(&mut self, o: &mut Out)
+        ensures fields { self.new ≡ left self.old (rests self.old) }
+        ensures wires { o.new ≡ with_effect o.old (rests self.old).write (rests self.old).happens }
+        ensures count { self.new.dummies.dcount ≡ self.old.dummies.dcount }
+        ensures printable { IfSome o.new.event IsPrintable }
+    {
+        self.csrs.tick(false, None);
+        put_event(o, None);
+    }
+
+    // Goes to a handler, with these registers.
+    fn go_to(&mut self, regs: &TrapRegs, target: u32)
+        ensures { self.new ≡ record self.old { next_pc = target; csrs = with_regs (tick_of self.old.csrs false None) regs.now } }
+    {
+        self.csrs.tick(false, None);
+        self.csrs.set_regs(regs);
+        self.next_pc = target;
+    }
+
+    // A trap with this cause and value, of an access at `addr`.
+    #[tactic(auto, unfolding(crate::specs::Effects::fails, crate::specs::Effects::rests))]
+    fn fail(&mut self, cause: u8, tval: u32, addr: u32, o: &mut Out)
+        ensures fields { self.new ≡ left self.old (fails self.old cause tval addr) }
+        ensures wires { o.new ≡ with_effect o.old (fails self.old cause tval addr).write (fails self.old cause tval addr).happens }
+        ensures count { self.new.dummies.dcount ≡ self.old.dummies.dcount }
+        ensures printable { IfSome o.new.event IsPrintable }
+    {
+        let (regs, target) = enter(&self.csrs.regs(), self.id.pc, cause, false, tval);
+        let word = if cause == FETCH_FAULT {
+            0
+        } else {
+            stage_word(&self.id)
+        };
+        self.go_to(&regs, target);
+        put_event(
+            o,
+            Some(Event::Trap {
+                cycle: 0,
+                pc: self.id.pc,
+                word,
+                cause,
+                tval,
+                addr,
+            }),
+        );
+    }
+
+    // A portion of an access failed.
+    #[cold]
+    #[tactic(auto, unfolding(crate::specs::Effects::portion_fails))]
+    fn fail_portion(&mut self, want: &Access, second: bool, o: &mut Out)
+        ensures fields { self.new ≡ left self.old (portion_fails self.old want.now second) }
+        ensures wires { o.new ≡ with_effect o.old (portion_fails self.old want.now second).write (portion_fails self.old want.now second).happens }
+        ensures count { self.new.dummies.dcount ≡ self.old.dummies.dcount }
+        ensures printable { IfSome o.new.event IsPrintable }
+    {
+        let cause = if want.store { STORE_FAULT } else { LOAD_FAULT };
+        self.fail(cause, portion_start(want.addr, second), want.addr, o);
+    }
+
+    // What a trap for another cause puts into mtval.
+    fn trap_value(&self, cause: u8) -> u32
+        ensures { result ≡ trap_value_of self.now cause }
+    {
+        match cause {
+            FETCH_FAULT if self.id.fault == 2 => self.id.pc.wrapping_add(2),
+            FETCH_FAULT => self.id.pc,
+            ILLEGAL_INSTRUCTION => stage_word(&self.id),
+            _ => 0,
+        }
+    }
+
+    #[cold]
+    #[tactic(auto, unfolding(crate::specs::Effects::cause_fails))]
+    fn fail_cause(&mut self, cause: u8, o: &mut Out)
+        ensures fields { self.new ≡ left self.old (cause_fails self.old cause) }
+        ensures wires { o.new ≡ with_effect o.old (cause_fails self.old cause).write (cause_fails self.old cause).happens }
+        ensures count { self.new.dummies.dcount ≡ self.old.dummies.dcount }
+        ensures printable { IfSome o.new.event IsPrintable }
+    {
+        let tval = self.trap_value(cause);
+        self.fail(cause, tval, 0, o);
+    }
+
+    #[cold]
+    #[tactic(auto, unfolding(crate::specs::Effects::interrupts, crate::specs::Effects::rests))]
+    fn interrupt(&mut self, number: u8, o: &mut Out)
+        ensures fields { self.new ≡ left self.old (interrupts self.old number) }
+        ensures wires { o.new ≡ with_effect o.old (interrupts self.old number).write (interrupts self.old number).happens }
+        ensures count { self.new.dummies.dcount ≡ self.old.dummies.dcount }
+        ensures printable { IfSome o.new.event IsPrintable }
+    {
+        let pc = self.id.pc;
+        let (regs, target) = enter(&self.csrs.regs(), pc, number, true, 0);
+        self.go_to(&regs, target);
+        put_event(
+            o,
+            Some(Event::Irq {
+                cycle: 0,
+                pc,
+                cause: number,
+            }),
+        );
+    }
+
+    /// Moves the registers and the address of the next real instruction as the turn leaves them, and drives the register
+    /// write and the event.
+    #[inline(always)]
+    #[tactic(auto, unfolding(crate::specs::Effects::effect_by, crate::specs::Effects::retires))]
+    pub fn take(&mut self, g: &Sight, lines: u32, o: &mut Out)
+        requires { IsSight self.old g.now }
+        ensures fields { self.new ≡ left self.old (effect_by g.now.turn self.old g.now lines) }
+        ensures wires { o.new ≡ with_effect o.old (effect_by g.now.turn self.old g.now lines).write (effect_by g.now.turn self.old g.now lines).happens }
+        ensures count { self.new.dummies.dcount ≡ self.old.dummies.dcount }
+        ensures printable { IfSome o.new.event IsPrintable }
     {
         match g.turn {
-            Turn::Idle | Turn::Hold(_) | Turn::Dummy => rest(x),
-            Turn::Irq => interrupt(x, (x.id.word % 32) as u8),
-            Turn::Trap { portion: 1 } => fail_portion(x, &access(g), false),
-            Turn::Trap { portion: 2 } => fail_portion(x, &access(g), true),
-            Turn::Trap { .. } => fail_cause(x, cause(g)),
-            Turn::Retire { redirect } => retire(x, g, redirect, &Outcome::of(x, g, lines)),
+            Turn::Idle | Turn::Hold(_) | Turn::Dummy => self.rest(o),
+            Turn::Irq => self.interrupt((self.id.word % 32) as u8, o),
+            Turn::Trap { portion: 1 } => self.fail_portion(&access(g), false, o),
+            Turn::Trap { portion: 2 } => self.fail_portion(&access(g), true, o),
+            Turn::Trap { .. } => self.fail_cause(cause(g), o),
+            Turn::Retire { .. } => self.retire(g, lines, o),
         }
     }
 }

@@ -3,7 +3,6 @@
 #![tactic(auto)]
 
 mod admit;
-mod begun;
 mod cycle;
 mod effect;
 mod fields;
@@ -18,7 +17,6 @@ mod state;
 mod step;
 mod wires;
 
-pub use begun::Begun;
 pub use machine::Core;
 pub use reads::Reads;
 pub use wires::{In, Out};

@@ -1,12 +1,11 @@
-ghost use Rattle.std.specs.Prelude.{◌≡◌, ◌^◌, ◌<◌, ◌%◌, ◌/◌, ◌==◌, Bool, IfSome, slice_index, slice_set};
+ghost use Rattle.std.specs.Prelude.{◌≡◌, ◌^◌, ◌<◌, ◌%◌, ◌/◌, ◌==◌, ◌&&◌, Bool, IfSome, slice_index, slice_set};
 ghost use Rattle.ibx_isa.specs.Events.{IsPrintable};
-ghost use Rattle.ibx_core.specs.Core.{IsBegun, IsSameUsed, core_next, core_out, is_bus, is_internal, is_minor, reads_in, reads_of};
+ghost use Rattle.ibx_core.specs.Core.{IsBegun, IsSameUsed, core_next, core_out, granted, is_bus, is_internal, is_minor, reads_in, reads_of};
 ghost use Rattle.ibx_core.specs.Fields.{fields, reset_of};
 ghost use Rattle.ibx_core.specs.Wires.{InWires};
 ghost use Rattle.ibx_plan.specs.Names.{fields as field_table, width_in};
 ghost use Rattle.ibx_core.specs.declared.state.State.{State};
 
-use crate::begun::Begun;
 use crate::reads::Reads;
 use crate::state::State;
 use crate::wires::{In, Out};
@@ -107,28 +106,30 @@ impl Core {
         self.state.advance(i);
     }
 
-    /// What the core puts out in a cycle with the wires `i`, as `out` gives it, and what it worked out on the way.
+    /// Begins a cycle with the wires `i`: puts the output, as `out` gives it, into `o`, and moves the fields as if nothing
+    /// were granted.
     #[tactic(auto, using(crate::proofs::Laws::ungranted))]
-    pub fn begin(&self, i: &In) -> (Out, Begun)
-        ensures value { result.0 ≡ core_out self.now i.now }
-        ensures begun { IsBegun self.now i.now result.1 }
+    pub fn begin(&mut self, i: &In, o: &mut Out)
+        ensures value { o.new ≡ core_out self.old i.now }
+        ensures begun { IsBegun self.old i.now self.new }
         // The output doesn't depend on the grants.
-        ensures grants { (igrant dgrant : Bool) → core_out self.now (record i.now { igrant = igrant; dgrant = dgrant }) ≡ result.0 }
+        ensures grants { (igrant dgrant : Bool) → core_out self.old (record i.now { igrant = igrant; dgrant = dgrant }) ≡ o.new }
 
         // Both addresses on the bus are those of words, and what is done has a printed line.
-        ensures fetched { result.0.iaddr % 4 ≡ 0 }
-        ensures accessed { result.0.daddr % 4 ≡ 0 }
-        ensures printable { IfSome result.0.event IsPrintable }
+        ensures fetched { o.new.iaddr % 4 ≡ 0 }
+        ensures accessed { o.new.daddr % 4 ≡ 0 }
+        ensures printable { IfSome o.new.event IsPrintable }
     {
-        let (out, cycle) = self.state.begin(i);
-        (out, Begun { cycle })
+        self.state.begin(i, o);
     }
 
-    /// Ends a cycle with the wires `i`, as `advance` does, by what was worked out as it began.
-    pub fn finish(&mut self, begun: Begun, i: &In)
-        requires { IsBegun self.old i.now begun }
-        ensures { self.new ≡ core_next self.old i.now }
+    /// Ends a cycle that has begun with the wires `i` but for the grants, and that put `o` out, as `advance` does.
+    #[inline(always)]
+    #[tactic(auto, using(crate::proofs::Laws::grants_last))]
+    pub fn finish(&mut self, i: &In, o: &Out)
+        ensures value { self.new ≡ granted i.now.igrant (i.now.dgrant && o.now.dreq) self.old }
+        ensures ended { (x : State) → IsBegun x i.now self.old → o.now ≡ core_out x i.now → self.new ≡ core_next x i.now }
     {
-        self.state.finish(&begun.cycle, i);
+        self.state.finish(i, o);
     }
 }

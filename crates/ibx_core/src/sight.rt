@@ -2,8 +2,6 @@ ghost use Rattle.std.specs.Prelude.{◌≡◌, ◌≤◌, ◌<◌, ◌^◌, IfSo
 ghost use Rattle.ibx_isa.specs.Events.{IsStore};
 ghost use Rattle.ibx_isa.specs.WellFormed.{IsWellFormed};
 ghost use Rattle.ibx_isa.specs.Wires.{IsRequest};
-ghost use Rattle.ibx_csr.specs.Values.{csr_can_write};
-ghost use Rattle.ibx_csr.specs.Fields.{values};
 ghost use Rattle.ibx_muldiv.specs.Unit.{start_of};
 ghost use Rattle.ibx_secded.specs.Code.{payload_of};
 ghost use Rattle.ibx_core.specs.Sights.{IsSight, access_by, access_if, cause_if, cause_of, cost_by, csr_cause as csr_cause_of, drsp_of, fixed_in, is_active, is_fixed as is_fixed_of, is_real as is_real_of, md_by, mul_of, refused_by, row_cause as row_cause_of, row_of, sight_of, sight_with, turn_by};
@@ -107,19 +105,11 @@ fn ls_turn(active: bool, access: Option<Access>, ls: &Lsu, rsp: &Rsp) -> LsTurn
     }
 }
 
-// Whether a CSR can be written in this mode.
-fn can_write(csrs: &Csrs, addr: u16) -> bool
-    ensures { result ≡ csr_can_write (values csrs.now) addr }
-{
-    let mut trial = *csrs;
-    trial.write(addr, 0)
-}
-
 #[tactic(auto, unfolding(crate::specs::Sights::csr_cause))]
 fn csr_cause(csrs: &Csrs, writing: bool, addr: u16) -> Option<u8>
     ensures { result ≡ csr_cause_of csrs.now writing addr }
 {
-    if csrs.read(addr, 0).is_none() || writing && !can_write(csrs, addr) {
+    if csrs.read(addr, 0).is_none() || writing && !csrs.can_write(addr) {
         Some(ILLEGAL_INSTRUCTION)
     } else {
         None

@@ -1,7 +1,6 @@
 ghost use Rattle.ibx_core.specs.Core.{IsBegun, core_next, core_out};
 ghost use Rattle.ibx_core.specs.Wires.{agree};
 
-use crate::begun::Begun;
 use crate::machine::Core;
 use crate::wires::{In, Out};
 use ibx_lockstep::{CoreCycle, CoreStep};
@@ -25,21 +24,22 @@ impl CoreStep for Core {
         Core::advance(self, i);
     }
 
+    #[inline(always)]
     fn same(a: &Out, b: &Out) -> bool {
         a.same(b)
     }
 }
 
 impl CoreCycle for Core {
-    type Begun = Begun;
+    ghost begun = { IsBegun };
 
-    ghost keeps = { IsBegun };
-
-    fn begin(&self, i: &In) -> (Out, Begun) {
-        Core::begin(self, i)
+    #[inline(always)]
+    fn begin(&mut self, i: &In, o: &mut Out) {
+        Core::begin(self, i, o);
     }
 
-    fn finish(&mut self, begun: Begun, i: &In) {
-        Core::finish(self, begun, i);
+    #[inline(always)]
+    fn finish(&mut self, i: &In, o: &Out) {
+        Core::finish(self, i, o);
     }
 }

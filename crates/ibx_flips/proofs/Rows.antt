@@ -100,13 +100,13 @@ stage = 0
 unfoldable effects : ℕ
 unfolding Effects.plain_outcome Effects.csr_written Effects.csr_outcome Effects.outcome_by Effects.retires
     Effects.rests Effects.fails Effects.portion_fails Effects.cause_fails Effects.interrupts Effects.effect_by
-    Entries.fetched_by Entries.may_execute Entries.fetched_of Entries.entry_by Entries.admits_by
+    Entries.fetched_by Entries.may_execute Entries.fetched_of Entries.entry_by Entries.admits_at
 effects = 0
 
 -- the fields and a cycle of the core
 unfoldable core : ℕ
 unfolding core_parts Fields.reset_of Fields.fields Flipped.core_of Flipped.field_flip Core.reads_of Core.heard
-    Core.port_of Core.head_by Core.cycle_with Core.cycle_seen Core.cycle_of Core.md_next Core.ls_by Core.next_by
+    Core.port_of Core.head_at Core.cycle_with Core.cycle_seen Core.cycle_of Core.md_next Core.ls_by Core.next_by
     Core.leaves Core.core_next Core.alerts_of Core.write_word Core.tag_word Core.out_with Core.out_by Core.gives
     Core.core_out
 core = 0

@@ -3,8 +3,8 @@ use Rattle.std.proofs.Common.{◌≡◌, refl, sym, ap, ◌∙◌}
 use Rattle.ibx_prefetch.specs.declared.buffer.WordAns.{WordAns}
 use Rattle.ibx_prefetch.specs.Buffer.{fetch_after_answer, request_of}
 use Rattle.ibx_icache.specs.WordPort.{answer_of}
-use Rattle.ibx_core.specs.declared.cycle.Cycle.{Cycle as CoreCycle}
-use Rattle.ibx_core.specs.declared.effect.Effect.{Effect as CoreEffect}
+use Rattle.ibx_core.specs.Core.{Cycle as CoreCycle}
+use Rattle.ibx_core.specs.Effects.{Effect as CoreEffect}
 use Rattle.ibx_core.specs.declared.sight.Sight.{Sight as CoreSight}
 use Rattle.ibx_core.specs.declared.state.State.{State}
 use Rattle.ibx_core.specs.Core.{core_next, cycle_of, cycle_seen, cycle_with, leaves, look_in, ls_by, md_next, next_by}

@@ -8,7 +8,7 @@ use Rattle.ibx_csr.specs.Fields.{values}
 use Rattle.ibx_csr.specs.Values.{csr_read}
 use Rattle.ibx_id.specs.declared.stage.Turn.{Turn}
 use Rattle.ibx_id.specs.declared.stage.Turn.TheVariants.{Idle, Hold, Retire, Trap, Irq, Dummy}
-use Rattle.ibx_core.specs.declared.effect.Effect.{Effect}
+use Rattle.ibx_core.specs.Effects.{Effect}
 use Rattle.ibx_core.specs.declared.sight.Sight.{Sight}
 use Rattle.ibx_core.specs.declared.state.State.{State}
 use Rattle.ibx_core.specs.Effects.{access_or, cause_fails, cause_or, csr_outcome, csr_value, csr_written, effect_by}

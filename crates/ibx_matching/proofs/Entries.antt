@@ -14,9 +14,9 @@ use Rattle.ibx_prefetch.specs.declared.buffer.WordAns.{WordAns}
 use Rattle.ibx_prefetch.specs.Buffer.{entry_of, fetch_after_answer, head_of, received, turned}
 use Rattle.ibx_id.specs.declared.stage.Turn.{Turn}
 use Rattle.ibx_id.specs.declared.stage.Turn.TheVariants.{Hold}
-use Rattle.ibx_core.specs.declared.effect.Effect.{Effect}
-use Rattle.ibx_core.specs.Core.{head_by, no_parcel}
-use Rattle.ibx_core.specs.Entries.{admits_by, dummy_mask, enables_dummies, entry_by, fetched_by, fetched_of}
+use Rattle.ibx_core.specs.Effects.{Effect}
+use Rattle.ibx_core.specs.Core.{head_at, head_by, no_parcel}
+use Rattle.ibx_core.specs.Entries.{admits_at, admits_by, dummy_mask, enables_dummies, entry_by, fetched_by, fetched_of}
 use Rattle.ibx_core.specs.Entries.{may_execute}
 use Rattle.ibx_machine.specs.Core.{admits_by as machine_admits_by, entry_by as machine_entry_by}
 use Rattle.ibx_machine.specs.Core.{fetched_by as machine_fetched_by}
@@ -50,7 +50,7 @@ entry_by_is None false h c d pc =
 -- by the turn
 admits_is : (turn : Turn) (h : Head) (e : Effect) (lines : ℕ)
     → machine_admits_by turn h (machine_effect e) lines ≡ machine_entry (admits_by turn h e lines)
-unfolding machine_admits_by admits_by values
+unfolding machine_admits_by admits_at values
 admits_is (Hold st) h e lines = refl
 admits_is _ h e lines =
     entry_by_is (pending_of e.csrs.priv_ e.csrs.mstatus e.csrs.mie lines)
@@ -70,7 +70,7 @@ unready_entry None false h k c d pc e f = rw (e, f) refl
 -- so by the turn
 unready_admits : (turn : Turn) (h k : Head) (e : Effect) (lines : ℕ) → h.first.ready ≡ false → k.first.ready ≡ false
     → admits_by turn h e lines ≡ admits_by turn k e lines
-unfolding admits_by
+unfolding admits_at
 unready_admits (Hold st) h k e lines u v = refl
 unready_admits _ h k e lines u v =
     unready_entry (pending_of e.csrs.priv_ e.csrs.mstatus e.csrs.mie lines)
@@ -99,7 +99,7 @@ no_head ans target f =
 entry_at : (turn : Turn) (redirect : Option ℕ) (ans : WordAns) (f : Prefetch) (e : Effect) (lines : ℕ)
     → machine_admits_by turn (head_of (fetch_after_answer ans redirect f)) (machine_effect e) lines
     ≡ machine_entry (admits_by turn (head_by redirect ans f) e lines)
-unfolding head_by
+unfolding head_at
 entry_at turn None ans f e lines = admits_is turn (head_of (fetch_after_answer ans None f)) e lines
 entry_at turn (Some target) ans f e lines =
     let h : Head = head_of (fetch_after_answer ans (Some target) f) in

@@ -15,7 +15,7 @@ use Rattle.ibx_icache.specs.WordPort.{wires_of}
 use Rattle.ibx_id.specs.Turns.{turn_of}
 use Rattle.ibx_lsu.specs.declared.unit.Lsu.{Lsu}
 use Rattle.ibx_lsu.specs.declared.unit.LsTurn.{LsTurn}
-use Rattle.ibx_core.specs.declared.cycle.Cycle.{Cycle}
+use Rattle.ibx_core.specs.Core.{Cycle}
 use Rattle.ibx_core.specs.declared.reads.Reads.{Reads}
 use Rattle.ibx_core.specs.declared.sight.Sight.{Sight}
 use Rattle.ibx_core.specs.declared.state.State.{State}

@@ -14,7 +14,7 @@ use Rattle.ibx_icache.specs.Doing.{doing_of, wires_by}
 use Rattle.ibx_icache.specs.WordPort.{WordIn, after_request, alerts_of as port_alerts, filling_of, is_bad_word}
 use Rattle.ibx_icache.specs.WordPort.{out_by as port_out, out_of, wires_of}
 use Rattle.ibx_csr.specs.Fields.{glitch_of}
-use Rattle.ibx_core.specs.declared.cycle.Cycle.{Cycle as CoreCycle}
+use Rattle.ibx_core.specs.Core.{Cycle as CoreCycle}
 use Rattle.ibx_core.specs.declared.state.State.{State}
 use Rattle.ibx_core.specs.Core.{alerts_of, core_out, cycle_of, gives, is_flipped, is_minor, is_write, out_by, out_with}
 use Rattle.ibx_core.specs.Core.{port_of, reads_of, write_register, write_word}

@@ -1,6 +1,6 @@
 -- One bit changed: of a field, of a delayed wire, and of the age of the delayed pairs.
-use Rattle.std.proofs.Common.{◌≡◌, ◌≢◌, ℕ, zero, suc, ◌+◌, ◌-◌, ◌*◌, ◌%◌, ◌^◌, ◌<◌, ◌≤◌, Bool, true, false, List, []}
-use Rattle.std.proofs.Common.{◌∷◌, ◌++◌, length, set, get_or, refl, sym, ap, ◌∙◌, subst, arith}
+use Rattle.std.proofs.Common.{◌≡◌, ◌≢◌, ℕ, zero, suc, ◌-◌, ◌*◌, ◌%◌, ◌^◌, ◌<◌, ◌≤◌, true, List, []}
+use Rattle.std.proofs.Common.{◌∷◌, ◌++◌, length, refl, sym, ap, ◌∙◌, subst, arith}
 use Rattle.std.specs.Prelude.{bit_xor, nat_le, slice_index, slice_set}
 use Rattle.std.specs.List.{list_all}
 use Rattle.std.proofs.lemmas.Bool.{and_parts, leb-true}
@@ -8,9 +8,9 @@ use Rattle.std.proofs.lemmas.Nat.{one_shl, pow_below, xor_lt}
 use Rattle.std.proofs.lemmas.List.{get_or-append_right, get_or_append_left, set-append_left, set-append_right}
 use Rattle.ibx_plan.specs.Names.{fields as field_table, width_in, wires}
 use Rattle.ibx_core.specs.declared.state.State.{State}
-use Rattle.ibx_core.specs.Fields.{bit, fields, widths}
+use Rattle.ibx_core.specs.Fields.{fields, widths}
 use Rattle.ibx_core.proofs.Widths.{width_is as field_width}
-use Rattle.ibx_core.specs.Flipped.{core_of, field_flip, in_numbers, in_of, is_set, number_flip, out_numbers, out_of}
+use Rattle.ibx_core.specs.Flipped.{core_of, field_flip, in_numbers, in_of, number_flip, out_numbers, out_of}
 use Rattle.ibx_core.specs.Flipped.{wire_flip}
 use Rattle.ibx_core.specs.Wires.{InWires as In, OutWires as Out}
 use Rattle.ibx_core.proofs.EqualFields.{core_of-fields, is_set-bit}

@@ -1,5 +1,5 @@
 -- What a step of the system shows, and the state that it leaves. Our own rule.
-use Rattle.std.specs.Prelude.{ℕ, Bool, true, false, if◌then◌else◌, Option, Some, None, bit_or}
+use Rattle.std.specs.Prelude.{ℕ, Bool, if◌then◌else◌, Option, Some, None, bit_or}
 use Rattle.ibx_isa.specs.declared.bus.Alerts.{Alerts}
 use Rattle.ibx_isa.specs.declared.event.Event.{Event}
 use Rattle.ibx_isa.specs.declared.event.Event.TheVariants.{Retire, Trap, Irq}

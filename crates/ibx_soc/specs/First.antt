@@ -1,5 +1,5 @@
 -- The system at reset: the first state of every run. Our own rule.
-use Rattle.std.specs.Prelude.{◌≡◌, ℕ, zero, suc, ◌+◌, ◌*◌, ◌/◌, ◌%◌, ◌<◌, ◌≤◌, List, [], ◌∷◌, map, length, Option, None}
+use Rattle.std.specs.Prelude.{◌≡◌, ℕ, zero, suc, ◌+◌, ◌*◌, ◌/◌, ◌%◌, ◌<◌, ◌≤◌, List, [], ◌∷◌, map, length, None}
 use Rattle.ibx_secded.specs.Code.{payload_of}
 use Rattle.ibx_isa.specs.declared.insn.MulKind.{MulKind}
 use Rattle.ibx_isa.specs.declared.insn.MulKind.TheVariants as kind

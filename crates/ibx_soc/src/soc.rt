@@ -29,6 +29,9 @@ use std::marker::Model;
 pub struct Soc<'p> {
     pair: Pair<Core>,
     memories: Memories<'p>,
+    // Places for what main and the shadow put out in a cycle. No cycle reads what the one before left there.
+    out: Out,
+    own: Out,
 }
 
 impl<'p> Model for Soc<'p> {
@@ -95,6 +98,8 @@ impl<'p> Soc<'p> {
         Ok(Soc {
             pair: Pair::new(core, core, In::quiet(), Out::quiet()),
             memories,
+            out: Out::quiet(),
+            own: Out::quiet(),
         })
     }
 
@@ -109,16 +114,13 @@ impl<'p> Soc<'p> {
     {
         let at = self.memories.cycle;
         let reads = self.pair.main().reads();
-        let shown = self.memories.look(&reads);
-        let (o, begun) = self.pair.main().begin(&shown);
-        let (igrant, dgrant) = self.memories.settle(&o);
-        let i = In {
-            igrant,
-            dgrant,
-            ..shown
-        };
-        let told = self.pair.step_begun(begun, &i, &o);
-        Cycle::of(at, told, &o)
+        let mut i = self.memories.look(&reads);
+        self.pair.main_mut().begin(&i, &mut self.out);
+        let (igrant, dgrant) = self.memories.settle(&self.out);
+        i.igrant = igrant;
+        i.dgrant = dgrant;
+        let told = self.pair.finish(&i, &self.out, &mut self.own);
+        Cycle::of(at, told, &self.out)
     }
 
     /// Changes one bit, and all else stays. False exactly where there is no such bit, and then nothing changed. A change

@@ -1,4 +1,4 @@
-use Rattle.std.proofs.Common.{None, ap, ◌∙◌, length, replicate, arith}
+use Rattle.std.proofs.Common.{None, ap, ◌∙◌, length, arith}
 use Rattle.std.proofs.lemmas.List.{length-replicate}
 use Rattle.ibx_elf.specs.declared.ram.Ram.{Ram}
 use Rattle.ibx_secded.specs.Code.{encode_of}
