@@ -108,6 +108,7 @@ fn next_unit(turn: &Turn, unit: &MulDiv) -> MulDiv
     }
 }
 
+#[inline(always)]
 fn ticked(unit: &MulDiv) -> MulDiv
     ensures { result ≡ (if left_of unit.now == 0 then unit.now else tick_of unit.now) }
 {

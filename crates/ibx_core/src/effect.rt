@@ -63,6 +63,7 @@ fn put_retirement(o: &mut Out, yields: &Yield, event: Event)
     o.event = Some(event);
 }
 
+#[inline(always)]
 fn access(g: &Sight) -> Access
     ensures { result ≡ access_or g.now.access }
 {
@@ -77,6 +78,7 @@ fn access(g: &Sight) -> Access
     }
 }
 
+#[inline(always)]
 fn cause(g: &Sight) -> u8
     ensures { result ≡ cause_or g.now.cause }
 {

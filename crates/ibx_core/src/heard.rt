@@ -8,6 +8,7 @@ use ibx_secded::Code;
 
 impl State {
     // Whether a tag word is that of the line that is looked up, told by its payload alone.
+    #[inline(always)]
     fn matches(&self, tag: u32) -> bool
         ensures { result ≡ matches tag self.now.words.c_addr }
     {
@@ -16,6 +17,7 @@ impl State {
     }
 
     /// The wires with 0 in place of each unused word.
+    #[inline(always)]
     #[tactic(auto, unfolding(crate::specs::Core::heard))]
     pub fn heard(&self, i: &In) -> In
         ensures { result ≡ heard_of self.now i.now }

@@ -191,7 +191,11 @@ impl State {
             Some(Insn::Load { op, rd, .. }) => self.plain(rd, loaded(op, g), next),
             Some(Insn::AluImm { op, rd, imm, .. }) => self.plain(rd, alu(op, g.a, imm), next),
             Some(Insn::Alu { op, rd, .. }) => self.plain(rd, alu(op, g.a, g.b), next),
-            Some(Insn::MulDiv { rd, .. }) => self.plain(rd, g.md.result(), next),
+            Some(Insn::MulDiv { rd, .. }) => {
+                // A copy, so that what the stage sees needn't stand in memory for this call.
+                let unit = g.md;
+                self.plain(rd, unit.result(), next)
+            }
             Some(
                 Insn::Csr {
                     op,

@@ -42,6 +42,7 @@ pub struct Sight {
     pub turn: Turn,
 }
 
+#[inline(always)]
 #[tactic(auto, unfolding(crate::specs::Sights::access_by))]
 fn access(row: Option<Insn>, a: u32, b: u32) -> Option<Access>
     requires { IfSome row IsWellFormed }
@@ -66,6 +67,7 @@ fn access(row: Option<Insn>, a: u32, b: u32) -> Option<Access>
 }
 
 // The portion, 1 or 2, that protection refuses, else 0.
+#[inline(always)]
 #[tactic(auto, unfolding(crate::specs::Sights::refused_by))]
 fn refused(csrs: &Csrs, access: Option<Access>) -> u8
     requires { IfSome access (λ w. w.size ≤ 4) }
@@ -86,6 +88,7 @@ fn refused(csrs: &Csrs, access: Option<Access>) -> u8
 }
 
 // A cycle of the access, where it is active.
+#[inline(always)]
 #[tactic(auto, unfolding(crate::specs::Sights::turn_by))]
 fn ls_turn(active: bool, access: Option<Access>, ls: &Lsu, rsp: &Rsp) -> LsTurn
     requires size { IfSome access (λ w. w.size ≤ 4) }
@@ -143,6 +146,7 @@ fn cause(csrs: &Csrs, fault: u8, row: Option<Insn>) -> Option<u8>
     }
 }
 
+#[inline(always)]
 fn multiplier(mul: u8) -> MulKind
     ensures { result ≡ mul_of mul }
 {
@@ -154,6 +158,7 @@ fn multiplier(mul: u8) -> MulKind
 }
 
 // The unit in this cycle: started in the row's first cycle, and as it was kept in a later one.
+#[inline(always)]
 #[tactic(auto, unfolding(crate::specs::Sights::md_by))]
 fn unit(
     first: bool,
@@ -182,6 +187,7 @@ fn started(op: MdOp, a: u32, b: u32, fixed: bool, mul: MulKind) -> MulDiv
 }
 
 // The cycles that the row takes beyond its first.
+#[inline(always)]
 #[tactic(auto, unfolding(crate::specs::Sights::cost_by))]
 fn cost(row: Option<Insn>, b: u32, fixed: bool, mul: MulKind) -> u8
     ensures { result ≡ cost_by row b fixed mul }
@@ -192,18 +198,21 @@ fn cost(row: Option<Insn>, b: u32, fixed: bool, mul: MulKind) -> u8
     }
 }
 
+#[inline(always)]
 fn payload(word: u64) -> u32
     ensures { result ≡ payload_of 32 word }
 {
     Code::<32, 7>::payload(word) as u32
 }
 
+#[inline(always)]
 pub fn is_fixed(csrs: &Csrs) -> bool
     ensures { result ≡ is_fixed_of csrs.now }
 {
     csrs.cpuctrl & DATA_IND_TIMING != 0
 }
 
+#[inline(always)]
 fn is_real(st: &IdState) -> bool
     ensures { result ≡ is_real_of st.now }
 {
@@ -211,6 +220,7 @@ fn is_real(st: &IdState) -> bool
 }
 
 // A real item alone has an access and a cause.
+#[inline(always)]
 fn access_of(real: bool, row: Option<Insn>, a: u32, b: u32) -> Option<Access>
     requires { IfSome row IsWellFormed }
     ensures value { result ≡ access_if real row a b }
@@ -231,6 +241,7 @@ fn cause_in(real: bool, x: &State, row: Option<Insn>) -> Option<u8>
 }
 
 // An access that nothing refuses, until a portion failed.
+#[inline(always)]
 fn active(x: &State, access: Option<Access>, refused: u8) -> bool
     requires { refused ≡ refused_by x.now.csrs access }
     ensures { result ≡ is_active x.now access }
@@ -238,6 +249,7 @@ fn active(x: &State, access: Option<Access>, refused: u8) -> bool
     access.is_some() && refused == 0 && x.id.phase < 2
 }
 
+#[inline(always)]
 pub fn data_answer(i: &In) -> Rsp
     ensures value { result ≡ drsp_of i.now }
     ensures fits { result.word < 2 ^ 39 }
@@ -250,6 +262,7 @@ pub fn data_answer(i: &In) -> Rsp
 }
 
 // What the stage sees, with the row, the operands, the access and the cause.
+#[inline(always)]
 #[tactic(auto, unfolding(crate::specs::Sights::sight_with))]
 fn seen(
     row: Option<Insn>,
@@ -297,6 +310,7 @@ fn seen(
 }
 
 impl Sight {
+    #[inline(always)]
     #[tactic(auto, unfolding(crate::specs::Sights::sight_of))]
     pub fn of(x: &State, i: &In) -> Sight
         ensures value { result ≡ sight_of x.now i.now }
