@@ -1,8 +1,8 @@
 #!/usr/bin/env bash
-# Times two commands in this program and in another one with the same commands, whose path is the first argument: `inject`
-# on compiled firmware with a flip in its last cycle, and `gen 1`. Each has three runs of each program in turn, the best of
-# which counts. The cycles of both systems of an injection are counted once. Not part of the gate, since times depend on
-# the machine.
+# Times three commands in this program and in another one with the same commands, whose path is the first argument: `run` on
+# compiled firmware, `inject` on it with a flip in its last cycle, and `gen 1`. Each has nine runs of each program in turn, the
+# best of which counts. The cycles of both systems of an injection are counted once. Not part of the gate, since times depend
+# on the machine.
 set -eu
 if [ $# != 1 ] || [ ! -x "$1" ]; then
     echo "usage: tools/speed.sh PROGRAM"
@@ -33,7 +33,7 @@ PYTHON
 compare() {
     local name=$1 cycles=$2 best_ours=0 best_other=0 time memory other_memory
     shift 2
-    for _ in 1 2 3; do
+    for _ in 1 2 3 4 5 6 7 8 9; do
         read -r time memory <<<"$(taken "$ours" "$@")"
         [ "$best_ours" != 0 ] && [ "$time" -ge "$best_ours" ] || best_ours=$time
         read -r time other_memory <<<"$(taken "$other" "$@")"
@@ -41,7 +41,9 @@ compare() {
     done
     echo "ours:  $name, $best_ours ms for $cycles cycles, $((cycles / best_ours)) cycles a millisecond, $memory KiB"
     echo "other: $name, $best_other ms for $cycles cycles, $((cycles / best_other)) cycles a millisecond, $other_memory KiB"
+    echo "ratio: $name, $((100 * best_other / best_ours)) % of the other's speed"
 }
 
+compare run "$cycles" run "$firmware"
 compare inject "$cycles" inject "$firmware" --plan "$plan" --cycles "$cycles"
 compare "gen 1" 232764 gen 1
