@@ -1,13 +1,13 @@
 #!/usr/bin/env bash
-# Runs the program on its sample with one allocation refused: the first, the second and so on, for each command. A run
-# must end with status 7 and nothing on standard output, or as it does where none is refused. Nothing is proved here,
-# and each number builds the program anew, which takes half a minute or more.
-# The numbers go from 1 to 40, or from the first argument to the second.
+# Runs the program on its sample with one allocation refused: the first, the second and so on, for `run`, `twin` and `inject`.
+# A run must end with status 7 and nothing on standard output, or as it does where none is refused. Nothing is proved here,
+# and each number builds the program anew, which takes twenty seconds or more.
+# The numbers go from 1 to 30, which is past the last allocation, or from the first argument to the second.
 # The last line is `memory: N passed, M failed`.
 set -u
 cd "$(dirname "$0")/../crates/ibx_cli"
 first=${1:-1}
-last=${2:-40}
+last=${2:-30}
 work=$(mktemp -d)
 trap 'rm -rf "$work"' EXIT
 printf 'flip 4 main id_word 15\n' >"$work/told.plan"
@@ -40,6 +40,8 @@ R 3 00100084 00100393 x07=00000001
 R 5 00100088 00732423 m00020008=00000001/4
 E halt 6 3
 " run store.elf
+refuse 0 "same 3
+" twin store.elf store.elf
 refuse 8 "diff 4
 alert 6 internal
 " inject store.elf --plan told.plan --cycles 5
