@@ -102,7 +102,8 @@ port_granted : (w : WordPort) (p : WordIn) (grant : Bool)
 unfolding word_port_next granted_by doing_of
 port_granted w p false = refl
 port_granted w p true =
-    ap (λ (g : Doing). record (after_request w p) { c_state = state_of (granted_by true g); c_walk = walked p.fence w.c_walk })
+    ap (λ (g : Doing). record (after_request w p)
+    { c_state = state_of (granted_by true g); c_walk = walked p.fence w.c_walk })
     (doing-state (doing_of (after_request w p).c_state))
 
 -- so is one of an access, where there is one
@@ -124,7 +125,8 @@ ls_granted true (Some want) ls rsp true = access_granted ls want rsp (ls_turn ls
 -- the fields after a cycle are those without a grant, changed by the grants
 pub grants_last : (x : State) (i : InWires)
     → granted i.igrant (i.dgrant && (core_out x i).dreq) (core_next x (before_grants i)) ≡ core_next x i
-unfolding core_next core_out leaves gives heard out_by out_with next_by port_of cycle_of cycle_seen cycle_with sight_of sight_with
+unfolding core_next core_out leaves gives heard out_by out_with next_by port_of cycle_of cycle_seen cycle_with sight_of
+    sight_with
 grants_last x i =
     let c : Cycle = cycle_of x (heard x i) in
     let port = port_granted x.words (port_of x (heard x i) c.request c.effect.fence) i.igrant in

@@ -2,21 +2,22 @@
 use Rattle.std.proofs.Common.{◌≡◌, ℕ, Bool, true, false, Option, Some, None, refl}
 use Rattle.std.specs.Prelude.{◌==◌, if◌then◌else◌}
 use Rattle.ibx_isa.specs.declared.insn.Insn.{Insn}
-use Rattle.ibx_isa.specs.declared.insn.Insn.TheVariants.{Lui, Auipc, Jal, Jalr, Branch, Load, Store, AluImm, Alu, MulDiv, Csr}
-use Rattle.ibx_isa.specs.declared.insn.Insn.TheVariants.{Fence, FenceI, Ecall, Ebreak, Mret, Wfi}
+use Rattle.ibx_isa.specs.declared.insn.Insn.TheVariants.{Lui, Auipc, Jal, Jalr, Branch, Load, Store, AluImm, Alu}
+use Rattle.ibx_isa.specs.declared.insn.Insn.TheVariants.{MulDiv, Csr, Fence, FenceI, Ecall, Ebreak, Mret, Wfi}
 use Rattle.ibx_isa.specs.CsrWrites.{writes}
 use Rattle.ibx_id.specs.declared.stage.Turn.{Turn}
 use Rattle.ibx_id.specs.declared.stage.Turn.TheVariants.{Idle, Hold, Retire, Trap, Irq, Dummy}
 use Rattle.ibx_core.specs.declared.sight.Sight.{Sight}
 use Rattle.ibx_core.specs.declared.state.State.{State}
-use Rattle.ibx_core.specs.Effects.{Effect, access_or, cause_fails, cause_or, csr_outcome, csr_written, effect_by, fails, fences}
-use Rattle.ibx_core.specs.Effects.{interrupts, is_fence, outcome_by, plain_outcome, portion_fails, redirects, rests, retires}
-use Rattle.ibx_core.specs.Effects.{target_if}
+use Rattle.ibx_core.specs.Effects.{Effect, access_or, cause_fails, cause_or, csr_outcome, csr_written, effect_by}
+use Rattle.ibx_core.specs.Effects.{fails, fences, interrupts, is_fence, outcome_by, plain_outcome, portion_fails}
+use Rattle.ibx_core.specs.Effects.{redirects, rests, retires, target_if}
 
 -- a trap redirects to its handler, whichever portion failed
 trap_redirects : (first second : Bool) (a b c : Effect)
     → a.redirect ≡ Some a.next_pc → b.redirect ≡ Some b.next_pc → c.redirect ≡ Some c.next_pc
-    → (if first then a else if second then b else c).redirect ≡ Some (if first then a else if second then b else c).next_pc
+    → (if first then a else if second then b else c).redirect
+    ≡ Some (if first then a else if second then b else c).next_pc
 trap_redirects true second a b c p q r = p
 trap_redirects false true a b c p q r = q
 trap_redirects false false a b c p q r = r
@@ -42,7 +43,8 @@ trap_fences false true a b c p q r = q
 trap_fences false false a b c p q r = r
 
 -- nor is a CSR instruction, whether it writes or not
-csr_fences : (writing : Bool) (x : State) (rd old value addr : ℕ) → (csr_written x writing rd old value addr).fence ≡ false
+csr_fences : (writing : Bool) (x : State) (rd old value addr : ℕ)
+    → (csr_written x writing rd old value addr).fence ≡ false
 unfolding csr_written plain_outcome
 csr_fences true x rd old value addr = refl
 csr_fences false x rd old value addr = refl

@@ -129,17 +129,19 @@ next_by c x i = record {
   csrs = c.effect.csrs;
 }
 
--- the fetch side's part of it, on the fields as the turn left them: what the word port is handed, and the fields after it, while
--- nothing is granted
+-- The fetch side's part of a cycle, on the fields as the turn left them, is told apart for the code, which makes a cycle in place: what
+-- the word port is handed.
 abbrev pub asked : Sight → WordIn → WordAns → State → WordIn
 asked g port ans y = record port {
   request = request_of (fetch_after_answer ans (target_if (redirects g.turn) y.next_pc) y.fetch);
   fence = fences g.turn g.row;
 }
 
+-- what enters the stage
 abbrev pub entry_at : Sight → WordAns → ℕ → State → Entry
 entry_at g ans lines y = admits_at g.turn (head_by (target_if (redirects g.turn) y.next_pc) ans y.fetch) y.csrs y.dummies y.next_pc lines
 
+-- and the fields after it, while nothing is granted
 abbrev pub fetch_side : Sight → WordIn → WordAns → ℕ → State → State
 fetch_side g port ans lines y = record y {
   fetch = prefetch_next ans (target_if (redirects g.turn) y.next_pc) (entry_at g ans lines y).taken y.fetch;

@@ -9,8 +9,8 @@ use Rattle.ibx_lsu.specs.declared.unit.Stage.{Stage}
 use Rattle.ibx_lsu.specs.declared.unit.Stage.TheVariants.{AskFirst, AwaitFirst, AskSecond, AwaitSecond}
 use Rattle.ibx_lsu.specs.declared.unit.Reply.{Reply}
 use Rattle.ibx_lsu.specs.declared.unit.Reply.TheVariants.{Silent, Good, Bad}
-use Rattle.ibx_lsu.specs.Turns.{crosses, first_answer, gives, granted_of, next_at, next_of, reply_of, second_answer, stage_of, turn_at}
-use Rattle.ibx_lsu.specs.Turns.{turn_of}
+use Rattle.ibx_lsu.specs.Turns.{crosses, first_answer, gives, granted_of, next_at, next_of, reply_of, second_answer}
+use Rattle.ibx_lsu.specs.Turns.{stage_of, turn_at, turn_of}
 
 -- words are given without a request
 gives_silent : (store : Bool) (first second : ℕ) → (gives store first second).req.valid ≡ false
@@ -25,7 +25,8 @@ first_silent Good true store word = refl
 first_silent Good false store word = gives_silent store word 0
 
 -- nor does one of the second
-second_silent : (reply : Reply) (store : Bool) (first word : ℕ) → (second_answer reply store first word).req.valid ≡ false
+second_silent : (reply : Reply) (store : Bool) (first word : ℕ)
+    → (second_answer reply store first word).req.valid ≡ false
 second_silent Silent store first word = refl
 second_silent Bad store first word = refl
 second_silent Good store first word = gives_silent store first word

@@ -103,7 +103,7 @@ impl<'p> Soc<'p> {
         })
     }
 
-    /// Makes one cycle, whose number is below 2^62. Each core works its cycle out once.
+    /// Makes one cycle, whose number is below 2^62. Each core makes its cycle once, and in place.
     #[tactic(auto, unfolding(crate::specs::Cycles::cycle_of, ibx_flips::specs::Core::core_parts, ibx_flips::specs::System::next, ibx_lockstep::specs::Paired::is_told, ibx_lockstep::specs::Paired::stepped))]
     pub fn step(&mut self) -> Cycle
         requires { self.old.place.cycle < 2 ^ 62 }
