@@ -1,10 +1,11 @@
 -- The core: what a cycle comes to from the fields and the wires, in order, and the fields after it. Our own rule.
-use Rattle.std.specs.Prelude.{◌≡◌, ℕ, ◌+◌, ◌*◌, ◌%◌, ◌^◌, Bool, true, false, not, ◌&&◌, ◌||◌, ◌==◌, if◌then◌else◌, Option, Some, None, bit_and}
+use Rattle.std.specs.Prelude.{◌≡◌, ℕ, ◌+◌, ◌*◌, ◌%◌, ◌^◌, Bool, true, false, not, ◌&&◌, ◌||◌, ◌==◌, if◌then◌else◌, Option, Some, None, IfSome, bit_and}
 use Rattle.ibx_isa.specs.declared.event.Access.{Access}
 use Rattle.ibx_isa.specs.declared.event.Event.{Event}
 use Rattle.ibx_isa.specs.declared.bus.Req.{Req}
 use Rattle.ibx_isa.specs.declared.bus.Rsp.{Rsp}
 use Rattle.ibx_isa.specs.ControlBits.{icache_enable}
+use Rattle.ibx_isa.specs.Events.{IsPrintable}
 use Rattle.ibx_secded.specs.Code.{encode_of, payload_of}
 use Rattle.ibx_csr.specs.Fields.{glitch_of}
 use Rattle.ibx_prefetch.specs.declared.buffer.WordAns.{WordAns}
@@ -26,7 +27,7 @@ use Rattle.ibx_id.specs.declared.stage.Turn.TheVariants.{Hold}
 use Rattle.ibx_core.specs.declared.reads.Reads.{Reads}
 use Rattle.ibx_core.specs.declared.sight.Sight.{Sight}
 use Rattle.ibx_core.specs.declared.state.State.{State}
-use Rattle.ibx_core.specs.Effects.{Effect, effect_by, fences, redirects, target_if}
+use Rattle.ibx_core.specs.Effects.{Effect, effect_by, fences, left, redirects, target_if}
 use Rattle.ibx_core.specs.Entries.{Entry, admits_at, admits_by}
 use Rattle.ibx_core.specs.Fields.{bit}
 use Rattle.ibx_core.specs.Sights.{drsp_of, irsp_of, ra_of, rb_of, sight_of}
@@ -228,6 +229,13 @@ with_reads o r = record o { ra = r.ra; rb = r.rb; line = r.line }
 
 abbrev pub with_effect : OutWires → Option (ℕ × ℕ) → Option Event → OutWires
 with_effect o write happens = record o { rw = is_write write; rwn = write_register write; rwword = write_word write; event = happens }
+
+-- a turn has left this effect: the fields and the wires by it, the dummies' count as it was, and an event that has a line
+pub record HasLeft (x : State) (o : OutWires) (e : Effect) (y : State) (p : OutWires) : Type 0 where
+  pub fields : y ≡ left x e
+  pub wires : p ≡ with_effect o e.write e.happens
+  pub count : y.dummies.dcount ≡ x.dummies.dcount
+  pub printable : IfSome p.event IsPrintable
 
 abbrev pub with_port : OutWires → CacheOut → OutWires
 with_port o p = record o {

@@ -1,8 +1,8 @@
 ghost use Rattle.std.specs.Prelude.{◌≡◌, ◌<◌, ◌^◌, ◌==◌, IfSome, None, Some, false, if◌then◌else◌};
 ghost use Rattle.ibx_isa.specs.Events.{IsPrintable};
 ghost use Rattle.ibx_csr.specs.Fields.{tick_of, with_regs};
-ghost use Rattle.ibx_core.specs.Core.{with_effect};
-ghost use Rattle.ibx_core.specs.Effects.{access_or, carried, cause_fails, cause_or, effect_by, fails, interrupts, left, outcome_by, portion_fails, rests, retirement_by, retirement_of, trap_value_of, written_by};
+ghost use Rattle.ibx_core.specs.Core.{HasLeft, with_effect};
+ghost use Rattle.ibx_core.specs.Effects.{access_or, carried, cause_fails, cause_or, effect_by, fails, interrupts, outcome_by, portion_fails, rests, retirement_by, retirement_of, trap_value_of, written_by};
 ghost use Rattle.ibx_core.specs.Sights.{IsSight};
 
 use crate::outcome::Yield;
@@ -106,10 +106,7 @@ impl State {
     #[inline(always)]
     #[tactic(auto, unfolding(crate::specs::Effects::rests))]
     fn rest(&mut self, o: &mut Out)
-        ensures fields { self.new ≡ left self.old (rests self.old) }
-        ensures wires { o.new ≡ with_effect o.old (rests self.old).write (rests self.old).happens }
-        ensures count { self.new.dummies.dcount ≡ self.old.dummies.dcount }
-        ensures printable { IfSome o.new.event IsPrintable }
+        ensures { HasLeft self.old o.old (rests self.old) self.new o.new }
     {
         self.csrs.tick(false, None);
         put_event(o, None);
@@ -127,10 +124,7 @@ impl State {
     // A trap with this cause and value, of an access at `addr`.
     #[tactic(auto, unfolding(crate::specs::Effects::fails, crate::specs::Effects::rests))]
     fn fail(&mut self, cause: u8, tval: u32, addr: u32, o: &mut Out)
-        ensures fields { self.new ≡ left self.old (fails self.old cause tval addr) }
-        ensures wires { o.new ≡ with_effect o.old (fails self.old cause tval addr).write (fails self.old cause tval addr).happens }
-        ensures count { self.new.dummies.dcount ≡ self.old.dummies.dcount }
-        ensures printable { IfSome o.new.event IsPrintable }
+        ensures { HasLeft self.old o.old (fails self.old cause tval addr) self.new o.new }
     {
         let (regs, target) = enter(&self.csrs.regs(), self.id.pc, cause, false, tval);
         let word = if cause == FETCH_FAULT {
@@ -156,10 +150,7 @@ impl State {
     #[cold]
     #[tactic(auto, unfolding(crate::specs::Effects::portion_fails))]
     fn fail_portion(&mut self, want: &Access, second: bool, o: &mut Out)
-        ensures fields { self.new ≡ left self.old (portion_fails self.old want.now second) }
-        ensures wires { o.new ≡ with_effect o.old (portion_fails self.old want.now second).write (portion_fails self.old want.now second).happens }
-        ensures count { self.new.dummies.dcount ≡ self.old.dummies.dcount }
-        ensures printable { IfSome o.new.event IsPrintable }
+        ensures { HasLeft self.old o.old (portion_fails self.old want.now second) self.new o.new }
     {
         let cause = if want.store { STORE_FAULT } else { LOAD_FAULT };
         self.fail(cause, portion_start(want.addr, second), want.addr, o);
@@ -180,10 +171,7 @@ impl State {
     #[cold]
     #[tactic(auto, unfolding(crate::specs::Effects::cause_fails))]
     fn fail_cause(&mut self, cause: u8, o: &mut Out)
-        ensures fields { self.new ≡ left self.old (cause_fails self.old cause) }
-        ensures wires { o.new ≡ with_effect o.old (cause_fails self.old cause).write (cause_fails self.old cause).happens }
-        ensures count { self.new.dummies.dcount ≡ self.old.dummies.dcount }
-        ensures printable { IfSome o.new.event IsPrintable }
+        ensures { HasLeft self.old o.old (cause_fails self.old cause) self.new o.new }
     {
         let tval = self.trap_value(cause);
         self.fail(cause, tval, 0, o);
@@ -192,10 +180,7 @@ impl State {
     #[cold]
     #[tactic(auto, unfolding(crate::specs::Effects::interrupts, crate::specs::Effects::rests))]
     fn interrupt(&mut self, number: u8, o: &mut Out)
-        ensures fields { self.new ≡ left self.old (interrupts self.old number) }
-        ensures wires { o.new ≡ with_effect o.old (interrupts self.old number).write (interrupts self.old number).happens }
-        ensures count { self.new.dummies.dcount ≡ self.old.dummies.dcount }
-        ensures printable { IfSome o.new.event IsPrintable }
+        ensures { HasLeft self.old o.old (interrupts self.old number) self.new o.new }
     {
         let pc = self.id.pc;
         let (regs, target) = enter(&self.csrs.regs(), pc, number, true, 0);
@@ -216,10 +201,7 @@ impl State {
     #[tactic(auto, unfolding(crate::specs::Effects::effect_by, crate::specs::Effects::retires))]
     pub fn take(&mut self, g: &Sight, lines: u32, o: &mut Out)
         requires { IsSight self.old g.now }
-        ensures fields { self.new ≡ left self.old (effect_by g.now.turn self.old g.now lines) }
-        ensures wires { o.new ≡ with_effect o.old (effect_by g.now.turn self.old g.now lines).write (effect_by g.now.turn self.old g.now lines).happens }
-        ensures count { self.new.dummies.dcount ≡ self.old.dummies.dcount }
-        ensures printable { IfSome o.new.event IsPrintable }
+        ensures { HasLeft self.old o.old (effect_by g.now.turn self.old g.now lines) self.new o.new }
     {
         match g.turn {
             Turn::Idle | Turn::Hold(_) | Turn::Dummy => self.rest(o),
