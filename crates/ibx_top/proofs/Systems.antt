@@ -1,11 +1,18 @@
--- The system of a run at reset.
-use Rattle.std.proofs.Common.{◌≡◌, ℕ, zero, suc, ◌+◌, ◌/◌, length, refl, ap, ◌∙◌}
+-- The system of a run at reset, and the verdict on it.
+use Rattle.std.proofs.Common.{◌≡◌, ℕ, zero, suc, ◌+◌, ◌/◌, Bool, true, false, [], ◌∷◌, Option, length, refl, ap, ◌∙◌}
 use Rattle.std.proofs.lemmas.List.{length-map}
 use Rattle.ibx_elf.specs.Image.{Placed}
 use Rattle.ibx_secded.specs.Code.{encode_of}
+use Rattle.ibx_plan.specs.declared.site.Flip.{Flip}
 use Rattle.ibx_plan.specs.Plan.{PlanValue}
+use Rattle.ibx_core.specs.declared.state.State.{State}
+use Rattle.ibx_flips.specs.System.{Whole}
+use Rattle.ibx_command.specs.declared.options.Options.{Options}
+use Rattle.ibx_compare.specs.declared.flipped.Verdict.{Verdict}
 use Rattle.ibx_soc.specs.declared.config.Config.{Config}
 use Rattle.ibx_soc.specs.First.{words_from, image_words, first}
+use Rattle.ibx_top.specs.Answers.{IsOneOf, alert_code}
+use Rattle.ibx_top.specs.Verdicts.{system_of, verdict_by, verdict_of}
 
 -- as many words are read of the image as are asked for
 words_length : (image : Placed) (addr n : ℕ) → length (words_from image addr n) ≡ n
@@ -19,3 +26,16 @@ pub memory_size : (image : Placed) (config : Config) (plan : PlanValue) → leng
 unfolding first
 memory_size image config plan = length-map (image_words image) (λ (v : ℕ). encode_of 32 7 v) ∙ words_length image
     image.ram.base (image.ram.size / 4)
+
+-- the verdict on a system that is as it was opened, with the plan's flip, is that on the image and the plan
+pub verdict_is : (options : Options) (plan : PlanValue) (image : Placed) (clean : Whole State) (flip : Option Flip)
+    (v : Verdict) → clean ≡ system_of image options plan → flip ≡ plan.flip → v ≡ verdict_by clean options.cycles flip
+    → v ≡ verdict_of image options plan
+verdict_is options plan image clean flip v opened same is =
+    is ∙ ap (λ (w : Whole State). verdict_by w options.cycles flip) opened
+    ∙ ap (λ (f : Option Flip). verdict_by (system_of image options plan) options.cycles f) same
+
+-- an injection is no refusal
+pub injects : (alert : Bool) → IsOneOf (0 ∷ 1 ∷ 8 ∷ 9 ∷ []) (alert_code alert)
+injects true = refl
+injects false = refl

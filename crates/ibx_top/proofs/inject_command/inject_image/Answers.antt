@@ -1,12 +1,10 @@
-use Rattle.std.proofs.Common.{◌≡◌, refl, ap, ◌∙◌, Option}
+use Rattle.std.proofs.Common.{◌≡◌, refl, ap, subst, ◌∙◌}
 use Rattle.std.specs.Prelude.{is_some}
-use Rattle.ibx_plan.specs.declared.site.Flip.{Flip}
-use Rattle.ibx_core.specs.declared.state.State.{State}
-use Rattle.ibx_flips.specs.System.{Whole}
-use Rattle.ibx_base.specs.Sinks.{with_more}
+use Rattle.ibx_base.specs.Sinks.{TookPrefix, with_more}
 use Rattle.ibx_compare.specs.declared.flipped.Verdict.{Verdict}
-use Rattle.ibx_top.specs.Verdicts.{verdict_text, verdict_by, verdict_of, system_of}
+use Rattle.ibx_top.specs.Verdicts.{verdict_text, verdict_of}
 use Rattle.ibx_top.specs.Answers.{alert_code, injected_by}
+use Rattle.ibx_top.proofs.Systems.{injects, verdict_is}
 use Rattle.ibx_top.proofs.inject_command.inject_image.Goals as goal
 
 pub returns-in-Ok-print_verdict-clause-prints : goal.returns-in-Ok-print_verdict-clause-prints
@@ -15,10 +13,9 @@ returns-in-Ok-print_verdict-clause-prints g c =
     let image = c.args.image.now in
     let plan = c.args.plan.now in
     let before = g.K.Sink.taken c.args.out.now in
-    let opened : c.in-Ok.clean ≡ system_of image options plan = c.in-Ok.ensures.first in
     let same : c.compare-verdict.result ≡ verdict_of image options plan =
-    c.compare-verdict.ensures.value ∙ ap (λ (w : Whole State). verdict_by w options.cycles c.flip.result) opened
-    ∙ ap (λ (f : Option Flip). verdict_by (system_of image options plan) options.cycles f) c.flip.ensures
+    verdict_is options plan image c.in-Ok.clean c.flip.result c.compare-verdict.result c.in-Ok.ensures.first
+    c.flip.ensures c.compare-verdict.ensures.value
     in record {
       answered = (
         injected_by options plan image,
@@ -34,6 +31,33 @@ returns-in-Ok-print_verdict-clause-prints g c =
       );
       write_fault = tt;
       cut_short = tt;
+      silent = tt;
+    }
+
+pub returns-clause-prints : goal.returns-clause-prints
+returns-clause-prints g c =
+    let options = c.args.options in
+    let image = c.args.image.now in
+    let plan = c.args.plan.now in
+    let before = g.K.Sink.taken c.args.out.now in
+    let same : c.compare-verdict.result ≡ verdict_of image options plan =
+    verdict_is options plan image c.in-Ok.clean c.flip.result c.compare-verdict.result c.in-Ok.ensures.first
+    c.flip.ensures c.compare-verdict.ensures.value
+    in record {
+      answered = tt;
+      write_fault = c.in-Err.ensures.cause.failure;
+      cut_short = (
+        injected_by options plan image,
+        (
+          refl,
+          record {
+            runs = injects (is_some (verdict_of image options plan).first_alert);
+            text =
+                subst (λ (v : Verdict). TookPrefix before (verdict_text v) (g.K.Sink.taken c.print_verdict.new.out))
+                same c.in-Err.ensures.prefix;
+          },
+        ),
+      );
       silent = tt;
     }
 
