@@ -23,9 +23,12 @@ taken() {
     python3 - "$@" <<'PYTHON'
 import resource, subprocess, sys
 
+# What started this interpreter may have had children of its own.
+before = resource.getrusage(resource.RUSAGE_CHILDREN)
 subprocess.run(sys.argv[1:], stdout=subprocess.DEVNULL, check=False)
 used = resource.getrusage(resource.RUSAGE_CHILDREN)
-print(round(1000 * (used.ru_utime + used.ru_stime)), used.ru_maxrss)
+time = used.ru_utime + used.ru_stime - before.ru_utime - before.ru_stime
+print(round(1000 * time), used.ru_maxrss)
 PYTHON
 }
 
