@@ -146,6 +146,7 @@ abbrev pub is_wait_at : CsrValues → Fetched → Bool
 is_wait_at csrs (Unsound addr) = false
 is_wait_at csrs (Instruction word length) = is_wait csrs (instruction_of word)
 
+-- the step with these two parcels at the program counter would be a WFI that waits
 unfoldable pub would_wait : State → ℕ → ℕ → Bool
 would_wait s first second = is_wait_at s.csrs (fetch s first second)
 

@@ -57,6 +57,7 @@ abbrev pub insn_writes : State → Option Insn → List PortionWrite
 insn_writes s (Some (Store size rs1 rs2 imm)) = store_writes s size ((reg s rs1 + imm) % 2 ^ 32) (reg s rs2)
 insn_writes s insn = []
 
+-- an unsound parcel ends the fetch in a trap, which writes nothing
 abbrev pub fetched_writes : State → Fetched → List PortionWrite
 fetched_writes s (Unsound addr) = []
 fetched_writes s (Instruction word length) = insn_writes s (instruction_of word)

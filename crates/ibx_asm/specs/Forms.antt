@@ -12,9 +12,11 @@ use Rattle.ibx_asm.specs.declared.slot.Slot.TheVariants as slot
 abbrev pub comma : Slot
 comma = slot.Comma
 
+-- `(`, before the base register of an access
 abbrev pub opening : Slot
 opening = slot.Opening
 
+-- `)`, after the base register
 abbrev pub closing : Slot
 closing = slot.Closing
 
@@ -22,9 +24,11 @@ closing = slot.Closing
 abbrev pub rd : Slot
 rd = slot.Register place.Rd
 
+-- the first source register, at bits 19:15
 abbrev pub rs1 : Slot
 rs1 = slot.Register place.Rs1
 
+-- the second source register, at bits 24:20
 abbrev pub rs2 : Slot
 rs2 = slot.Register place.Rs2
 
@@ -32,12 +36,15 @@ rs2 = slot.Register place.Rs2
 abbrev pub wide : Slot
 wide = slot.Register place.Rd
 
+-- any of the 32 registers at bits 6:2, which C.SWSP stores
 abbrev pub source : Slot
 source = slot.Register place.ShortRs2
 
+-- x8 to x15 at bits 9:7, the higher of the two short places
 abbrev pub high : Slot
 high = slot.ShortRegister place.Rd
 
+-- x8 to x15 at bits 4:2, the lower one
 abbrev pub low : Slot
 low = slot.ShortRegister place.ShortRs2
 

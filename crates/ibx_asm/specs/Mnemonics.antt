@@ -14,6 +14,7 @@ use Rattle.ibx_asm.specs.declared.slot.Form.TheVariants as form
 abbrev pub long : ℕ → Form → Encoding
 long word f = record { word = word; size = 4; form = f }
 
+-- an encoding of 2 bytes: a compressed instruction, or a halfword of data
 abbrev pub short : ℕ → Form → Encoding
 short half f = record { word = half; size = 2; form = f }
 

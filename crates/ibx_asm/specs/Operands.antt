@@ -28,6 +28,7 @@ register_of token = position (λ name. bytes_eq name token) registers
 abbrev pub plus : ℕ → Signed
 plus n = record { minus = false; size = n }
 
+-- a number with a minus sign, by its size; `-0` is one too
 abbrev pub minus : ℕ → Signed
 minus n = record { minus = true; size = n }
 

@@ -5,6 +5,7 @@ use Rattle.std.specs.Prelude.{ℕ, Bool, ◌&&◌, nat_le, nat_lt}
 abbrev pub host_page : ℕ
 host_page = 0x20000
 
+-- the first byte address after the page, which has 4 KiB
 abbrev pub host_page_end : ℕ
 host_page_end = 0x21000
 
@@ -13,6 +14,7 @@ host_page_end = 0x21000
 abbrev pub console_register : ℕ
 console_register = 0x20000
 
+-- the register that ends the run, by a word store with bit 0 set
 abbrev pub halt_register : ℕ
 halt_register = 0x20008
 

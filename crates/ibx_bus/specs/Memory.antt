@@ -26,6 +26,7 @@ pub record IsMemory (m : MemoryState) : Type 0 where
 abbrev pub coded_memory : List ℕ → ℕ → MemoryState
 coded_memory image base = record { base = base; words = map (λ v. encode_of 32 7 v) image }
 
+-- a byte address lies in RAM, whose words have four bytes each
 abbrev pub memory_has : MemoryState → ℕ → Bool
 memory_has m address = nat_le m.base address && nat_lt address (m.base + 4 * length m.words)
 

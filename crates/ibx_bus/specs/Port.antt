@@ -67,6 +67,7 @@ port_moves false true true p err word =
       word = word;
     }
 
+-- the port after a cycle with these wires; a grant keeps what memory answers in this cycle
 abbrev pub port_next : PortState → MemoryState → Req → PortState
 port_next p m r = port_moves (is_blocked p) r.valid (is_wait_over p) p (error_of m r) (answered_word m r)
 

@@ -28,14 +28,17 @@ abbrev pub in_front_if : {A : Type 0} → Bool → A → List A → List A
 in_front_if true c cs = c ∷ cs
 in_front_if false c cs = cs
 
+-- the cycles of the issues: a request that is held ungranted from the cycle before is no new one
 unfoldable pub issues : ℕ → Bool → List Seen → List ℕ
 issues c held [] = []
 issues c held (w ∷ ws) = in_front_if (w.request && not held) c (issues (c + 1) (w.request && not w.grant) ws)
 
+-- the cycles of the grants, the first call being that of cycle c
 unfoldable pub granted_in : ℕ → List Seen → List ℕ
 granted_in c [] = []
 granted_in c (w ∷ ws) = in_front_if w.grant c (granted_in (c + 1) ws)
 
+-- the cycles of the answers, counted in the same way
 unfoldable pub answered_in : ℕ → List Seen → List ℕ
 answered_in c [] = []
 answered_in c (w ∷ ws) = in_front_if w.answer c (answered_in (c + 1) ws)
@@ -64,6 +67,7 @@ unfoldable pub grant_times : List Wait → ℕ → List ℕ → List ℕ
 grant_times waits n [] = []
 grant_times waits n (t ∷ ts) = grant_time waits n t ∷ grant_times waits (suc n) ts
 
+-- each is answered at least one cycle after its grant
 unfoldable pub answer_times : List Wait → ℕ → List ℕ → List ℕ
 answer_times waits n [] = []
 answer_times waits n (t ∷ ts) = answer_time waits n t ∷ answer_times waits (suc n) ts

@@ -43,9 +43,11 @@ reads_of x = record { ra = ra_of x.id; rb = rb_of x.id; line = looked x.words }
 abbrev pub looks : WordPort → Bool
 looks w = w.c_state == 1
 
+-- way 0 matches in a lookup; being the lowest way, it needs no look at way 1
 abbrev pub takes0 : WordPort → ℕ → Bool
 takes0 w tag0 = looks w && matches tag0 w.c_addr
 
+-- way 1 matches in a lookup and way 0 does not, so that at most one data word is used
 abbrev pub takes1 : WordPort → ℕ → ℕ → Bool
 takes1 w tag0 tag1 = looks w && (not (matches tag0 w.c_addr) && matches tag1 w.c_addr)
 
@@ -75,10 +77,12 @@ port_of x i request fence = record { request = request; enable = not (bit_and x.
 abbrev pub no_parcel : Parcel
 no_parcel = record { ready = false; err = false; half = 0 }
 
+-- the next two parcels as the buffer holds them, or none ready where the stream begins anew at a target
 unfoldable pub head_at : Option ℕ → Prefetch → Head
 head_at None g = head_of g
 head_at (Some target) g = record { first = no_parcel; second = no_parcel }
 
+-- the same once the word that answers in this cycle has come in, so that a parcel may enter as it arrives
 abbrev pub head_by : Option ℕ → WordAns → Prefetch → Head
 head_by redirect ans f = head_at redirect (fetch_after_answer ans redirect f)
 
@@ -91,6 +95,7 @@ pub record Cycle : Type 0 where
   pub entry : Entry
   pub request : Option ℕ
 
+-- a cycle from its turn and its answer: the effect comes first, so that what enters sees its CSRs and its redirect
 unfoldable pub cycle_with : Sight → Effect → WordAns → State → InWires → Cycle
 cycle_with g e ans x i = record {
   sight = g;
@@ -100,9 +105,11 @@ cycle_with g e ans x i = record {
   request = request_of (fetch_after_answer ans e.redirect x.fetch);
 }
 
+-- the same with the effect worked out from the stage's turn, and the answer from the word port and the cache's words
 unfoldable pub cycle_seen : Sight → State → InWires → Cycle
 cycle_seen g x i = cycle_with g (effect_by g.turn x g i.lines) (answer_of x.words (irsp_of i) (look_in i)) x i
 
+-- what a cycle comes to from the fields and the wires alone
 unfoldable pub cycle_of : State → InWires → Cycle
 cycle_of x i = cycle_seen (sight_of x i) x i
 
@@ -118,6 +125,7 @@ unfoldable pub ls_by : Bool → Option Access → Lsu → Rsp → Bool → Lsu
 ls_by true (Some w) ls rsp granted = ls_next ls w rsp granted
 ls_by active access ls rsp granted = ls
 
+-- the fields after a cycle: its turn and its entry are taken over, and the two ports see the grants
 unfoldable pub next_by : Cycle → State → InWires → State
 next_by c x i = record {
   fetch = prefetch_next c.ans c.effect.redirect c.entry.taken x.fetch;
@@ -151,6 +159,7 @@ fetch_side g port ans lines y = record y {
   dummies = (entry_at g ans lines y).dummies;
 }
 
+-- the fields after a cycle on the wires as they are, unused words not yet replaced by 0
 unfoldable pub leaves : State → InWires → State
 leaves x i = next_by (cycle_of x i) x i
 
@@ -191,6 +200,7 @@ is_internal x i = is_bad_word i.rega || is_bad_word i.regb || glitch_of x.csrs
 abbrev pub is_flipped : Rsp → Bool
 is_flipped rsp = rsp.valid && is_bad_word rsp.word
 
+-- BUS by both ports: an answer with a flipped bit came to the fetch side or to the data side
 abbrev pub is_bus : InWires → Bool
 is_bus i = is_flipped (irsp_of i) || is_flipped (drsp_of i)
 
@@ -205,10 +215,12 @@ abbrev pub is_write : Option (ℕ × ℕ) → Bool
 is_write (Some w) = true
 is_write None = false
 
+-- the number of the register that is written, 0 where none is
 abbrev pub write_register : Option (ℕ × ℕ) → ℕ
 write_register (Some w) = w.0
 write_register None = 0
 
+-- the word that the register file is to hold: the low 32 bits of the value with 7 check bits, 0 without a write
 unfoldable pub write_word : Option (ℕ × ℕ) → ℕ
 write_word (Some w) = encode_of 32 7 (w.1 % 2 ^ 32)
 write_word None = 0
@@ -217,6 +229,7 @@ write_word None = 0
 abbrev pub tag_ways : CacheOut → ℕ
 tag_ways o = if o.clear then 3 else o.ways
 
+-- a cleared set gets the codeword of 0, a filled way that of its tag, and without a write the wires are 0
 unfoldable pub tag_word : CacheOut → ℕ
 tag_word o = if o.clear then encode_of 22 6 0 else if o.ways == 0 then 0 else encode_of 22 6 (payload_of 22 o.tag)
 
@@ -224,9 +237,11 @@ tag_word o = if o.clear then encode_of 22 6 0 else if o.ways == 0 then 0 else en
 abbrev pub with_access : OutWires → Req → OutWires
 with_access o r = record o { dreq = r.valid; dwe = r.write; dbe = r.be; daddr = r.addr; dword = r.word }
 
+-- the two registers that are read, and the address at which the cache is read
 abbrev pub with_reads : OutWires → Reads → OutWires
 with_reads o r = record o { ra = r.ra; rb = r.rb; line = r.line }
 
+-- the register write, its word encoded, and the event
 abbrev pub with_effect : OutWires → Option (ℕ × ℕ) → Option Event → OutWires
 with_effect o write happens = record o { rw = is_write write; rwn = write_register write; rwword = write_word write; event = happens }
 
@@ -237,6 +252,7 @@ pub record HasLeft (x : State) (o : OutWires) (e : Effect) (y : State) (p : OutW
   pub count : y.dummies.dcount ≡ x.dummies.dcount
   pub printable : IfSome p.event IsPrintable
 
+-- the fetch request, and the writes of the cache's tags and data
 abbrev pub with_port : OutWires → CacheOut → OutWires
 with_port o p = record o {
   ireq = p.bus.valid;
@@ -249,6 +265,7 @@ with_port o p = record o {
   dw1 = p.line1;
 }
 
+-- the wires from the word port's, the alerts, what is read, and what the cycle comes to
 unfoldable pub out_with : CacheOut → ℕ → Reads → Cycle → OutWires
 out_with o alerts r c = record {
   ireq = o.bus.valid;
@@ -274,9 +291,11 @@ out_with o alerts r c = record {
   event = c.effect.happens;
 }
 
+-- the same from the fields: the alerts are told by the wires that come in, not by what the cycle comes to
 unfoldable pub out_by : Cycle → State → InWires → OutWires
 out_by c x i = out_with (out_of x.words (port_of x i c.request c.effect.fence)) (alerts_of x i) (reads_of x) c
 
+-- what the core puts out on the wires as they are, unused words not yet replaced by 0
 unfoldable pub gives : State → InWires → OutWires
 gives x i = out_by (cycle_of x i) x i
 

@@ -66,10 +66,12 @@ ticked x = tick_of x.csrs true None
 unfoldable pub plain_outcome : State → ℕ → ℕ → ℕ → Outcome
 plain_outcome x rd value next = record { rd = rd; value = value; ctl = None; next_pc = next; csrs = ticked x; dummies = x.dummies; fence = false }
 
+-- the access of a row, or a stand-in where it has none: a load of four bytes at 0
 abbrev pub access_or : Option Access → Access
 access_or (Some w) = w
 access_or None = record { addr = 0; size = 4; store = false; value = 0 }
 
+-- the old value of a CSR, 0 where the table has none or the mode may not read it
 abbrev pub csr_value : Option ℕ → ℕ
 csr_value (Some v) = v
 csr_value None = 0
@@ -104,6 +106,7 @@ outcome_by (Some FenceI) x g lines = record (plain_outcome x 0 0 (following x.id
 outcome_by (Some Mret) x g lines = record (plain_outcome x 0 0 x.csrs.mepc) { csrs = with_regs (ticked x) (leave_of (trap_regs (values x.csrs))) }
 outcome_by insn x g lines = plain_outcome x 0 0 (following x.id)
 
+-- where the fetch side begins anew, if the turn redirects
 abbrev pub target_if : Bool → ℕ → Option ℕ
 target_if true target = Some target
 target_if false target = None
@@ -116,6 +119,7 @@ yield_of o = record { rd = o.rd; value = o.value; ctl = o.ctl }
 abbrev pub retirement_by : IdState → Sight → Yield → Bool → Event
 retirement_by st g y fixed = event.Retire 0 st.pc (stage_word st) y.rd (if y.rd == 0 then 0 else y.value) g.access y.ctl (if fixed then None else Some (g.a, g.b))
 
+-- the same of what it comes to: the operands are left out where cpuctrl asks for fixed timing
 abbrev pub retirement_of : State → Sight → Outcome → Event
 retirement_of x g o = retirement_by x.id g (yield_of o) (is_fixed x.csrs)
 
@@ -123,6 +127,7 @@ retirement_of x g o = retirement_by x.id g (yield_of o) (is_fixed x.csrs)
 abbrev pub written_by : Outcome → Option (ℕ × ℕ)
 written_by o = if o.rd == 0 then None else Some (o.rd, o.value)
 
+-- what a row that retires leaves: its outcome, a fetch at the next address if it redirects, and its event
 unfoldable pub retires : State → Sight → Bool → Outcome → Effect
 retires x g redirect o = record {
   csrs = o.csrs;
@@ -136,6 +141,7 @@ retires x g redirect o = record {
 
 -- ---- a cycle without an event, a trap, and an interrupt
 
+-- a cycle in which nothing retires: mcycle may move, minstret does not, and all else stays as it was
 unfoldable pub rests : State → Effect
 rests x = record { csrs = tick_of x.csrs false None; dummies = x.dummies; next_pc = x.next_pc; redirect = None; write = None; fence = false; happens = None }
 
@@ -161,9 +167,11 @@ trap_value_of x cause =
     if cause == illegal_instruction then stage_word x.id else
     0
 
+-- a trap for another cause than a failed access: the address of an access in its event is 0
 unfoldable pub cause_fails : State → ℕ → Effect
 cause_fails x cause = fails x cause (trap_value_of x cause) 0
 
+-- the cause of a row that traps; without one it stands for an illegal instruction
 abbrev pub cause_or : Option ℕ → ℕ
 cause_or (Some cause) = cause
 cause_or None = illegal_instruction
@@ -181,6 +189,7 @@ interrupts x number =
 
 -- ---- by the turn
 
+-- what each turn leaves: of a trap, portions 1 and 2 are those of a failed access, and any other is the row's own cause
 unfoldable pub effect_by : Turn → State → Sight → ℕ → Effect
 effect_by Idle x g lines = rests x
 effect_by (Hold st) x g lines = rests x
@@ -198,6 +207,7 @@ effect_by (Retire redirect) x g lines = retires x g redirect (outcome_by g.row x
 abbrev pub carried : State → Outcome → State
 carried x o = record x { csrs = o.csrs; dummies = o.dummies; next_pc = o.next_pc }
 
+-- CSRs, dummies and the next address are all that a turn moves; the other units step on their own
 abbrev pub left : State → Effect → State
 left x e = record x { csrs = e.csrs; dummies = e.dummies; next_pc = e.next_pc }
 
@@ -213,6 +223,7 @@ abbrev pub is_fence : Option Insn → Bool
 is_fence (Some FenceI) = true
 is_fence row = false
 
+-- only a turn that retires one counts, so that one that is held empties no cache
 abbrev pub fences : Turn → Option Insn → Bool
 fences (Retire redirect) row = is_fence row
 fences turn row = false

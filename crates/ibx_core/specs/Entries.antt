@@ -32,6 +32,7 @@ enters kind pc word fault = record { valid = true; kind = kind; pc = pc; word = 
 abbrev pub enables_dummies : Csrs → Bool
 enables_dummies c = not (bit_and c.cpuctrl dummy_instr_en == 0)
 
+-- bits 5:3 of cpuctrl, which bound how many real instructions lie between two dummies
 abbrev pub dummy_mask : Csrs → ℕ
 dummy_mask c = bit_and c.cpuctrl dummy_instr_mask / 8
 
@@ -53,6 +54,7 @@ is_unset c = c.pmpcfg0 == 0 && (c.pmpcfg1 == 0 && (c.pmpcfg2 == 0 && c.pmpcfg3 =
 unfoldable pub may_execute : Csrs → ℕ → Bool
 may_execute c addr = allowed (cfg_bytes (values c)) (values c).pmpaddr (addr / 2 * 2) 2 Execute c.priv_
 
+-- the instruction of the buffer's first parcels, each sound where its answer had no error and protection lets it run
 unfoldable pub fetched_of : Head → Csrs → DummyUnit → ℕ → Entry
 fetched_of h c d pc =
     fetched_by h.first.ready (not h.first.err && may_execute c pc) (is_long h.first.half) h.second.ready (not h.second.err && may_execute c ((pc + 2) % 2 ^ 32)) pc h.first.half h.second.half d (counted_by (enables_dummies c) d)

@@ -56,6 +56,7 @@ read_by source _ _ = 0
 unfoldable pub ra_of : IdState → ℕ
 ra_of st = read_by source1 (nat_lt st.phase 4) (row_of st)
 
+-- the same of the second source
 unfoldable pub rb_of : IdState → ℕ
 rb_of st = read_by source2 (nat_lt st.phase 4) (row_of st)
 
@@ -81,6 +82,7 @@ unfoldable pub refused_by : Csrs → Option Access → ℕ
 refused_by c None = 0
 refused_by c (Some w) = if is_denied c w false then 1 else if has_second w && is_denied c w true then 2 else 0
 
+-- there is an access: the row of a real item is a load or a store
 abbrev pub is_some_access : Option Access → Bool
 is_some_access (Some w) = true
 is_some_access None = false
@@ -92,6 +94,7 @@ turn_by active access ls rsp = awaits
 
 -- ---- the cause that the stage's fields, the row, the mode and the table of CSRs give
 
+-- the CSR can't be read: there is none at the address, or not for this mode
 abbrev pub lacks_value : Option ℕ → Bool
 lacks_value None = true
 lacks_value (Some v) = false
@@ -111,6 +114,7 @@ row_cause c (Some Wfi) = if may_wait (values c) then None else Some illegal_inst
 row_cause c (Some insn) = None
 row_cause c None = Some illegal_instruction
 
+-- an unsound parcel is a fetch fault, whatever the row; else the row gives the cause
 unfoldable pub cause_of : Csrs → ℕ → Option Insn → Option ℕ
 cause_of c fault row = if fault == 0 then row_cause c row else Some fetch_fault
 
@@ -137,6 +141,7 @@ cost_by insn b fixed mul = 0
 abbrev pub is_real : IdState → Bool
 is_real st = st.valid && st.kind == 0
 
+-- bit 1 of cpuctrl is set: timing doesn't depend on data
 abbrev pub is_fixed : Csrs → Bool
 is_fixed c = not (bit_and c.cpuctrl data_ind_timing == 0)
 
@@ -148,6 +153,7 @@ fixed_in x = x.id.kind == 1 || is_fixed x.csrs
 abbrev pub irsp_of : InWires → Rsp
 irsp_of i = record { valid = i.irsp_valid; err = i.irsp_err; word = i.irsp_word }
 
+-- that of the data port
 abbrev pub drsp_of : InWires → Rsp
 drsp_of i = record { valid = i.drsp_valid; err = i.drsp_err; word = i.drsp_word }
 
@@ -186,10 +192,12 @@ abbrev pub access_if : Bool → Option Insn → ℕ → ℕ → Option Access
 access_if true row a b = access_by row a b
 access_if false row a b = None
 
+-- no exception comes of a dummy, an interrupt or an empty stage
 abbrev pub cause_if : Bool → State → Option Insn → Option ℕ
 cause_if true x row = cause_of x.csrs x.id.fault row
 cause_if false x row = None
 
+-- the operands are the register words on the wires without their check bits
 unfoldable pub sight_of : State → InWires → Sight
 sight_of x i =
     let a = payload_of 32 i.rega in

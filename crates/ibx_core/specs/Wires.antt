@@ -60,9 +60,11 @@ abbrev pub agree_bus : OutWires → OutWires → Bool
 agree_bus a b =
     beq a.ireq b.ireq && ((a.iaddr == b.iaddr) && (beq a.dreq b.dreq && (beq a.dwe b.dwe && ((a.dbe == b.dbe) && ((a.daddr == b.daddr) && (a.dword == b.dword))))))
 
+-- both read addresses, and the write with its number and its codeword
 abbrev pub agree_registers : OutWires → OutWires → Bool
 agree_registers a b = (a.ra == b.ra) && ((a.rb == b.rb) && (beq a.rw b.rw && ((a.rwn == b.rwn) && (a.rwword == b.rwword))))
 
+-- the line that is read, and the ways, the set and the words that are written
 abbrev pub agree_cache : OutWires → OutWires → Bool
 agree_cache a b =
     (a.line == b.line) && ((a.tways == b.tways) && ((a.tset == b.tset) && ((a.tword == b.tword) && ((a.dways == b.dways) && ((a.dw0 == b.dw0) && (a.dw1 == b.dw1))))))

@@ -20,6 +20,7 @@ use Rattle.ibx_csr.specs.Bits.{legal_of, at_reset}
 abbrev pub cfgs : Csrs → List ℕ
 cfgs s = s.pmpcfg0 ∷ s.pmpcfg1 ∷ s.pmpcfg2 ∷ s.pmpcfg3 ∷ []
 
+-- the words of pmpaddr0 to pmpaddr15, one for each entry of the protection unit
 abbrev pub addrs : Csrs → List ℕ
 addrs s = s.pmpaddr0 ∷ s.pmpaddr1 ∷ s.pmpaddr2 ∷ s.pmpaddr3 ∷ s.pmpaddr4 ∷ s.pmpaddr5 ∷ s.pmpaddr6 ∷ s.pmpaddr7
     ∷ s.pmpaddr8 ∷ s.pmpaddr9 ∷ s.pmpaddr10 ∷ s.pmpaddr11 ∷ s.pmpaddr12 ∷ s.pmpaddr13 ∷ s.pmpaddr14 ∷ s.pmpaddr15 ∷ []
@@ -113,6 +114,7 @@ put_cfg s k v =
     if k == 3 then record s { pmpcfg3 = v; pmpcfg3_n = complement v } else
     s
 
+-- pmpaddr k with its complement, for k up to 15; the lock is not looked at here
 abbrev pub put_addr : Csrs → ℕ → ℕ → Csrs
 put_addr s k v =
     if k == 0 then record s { pmpaddr0 = v; pmpaddr0_n = complement v } else
@@ -192,15 +194,18 @@ with_regs s r = let k = kept_regs r in record s {
 abbrev pub guarded_trap : Csrs → List (ℕ × ℕ)
 guarded_trap s = (s.mstatus, s.mstatus_n) ∷ (s.mtvec, s.mtvec_n) ∷ (s.cpuctrl, s.cpuctrl_n) ∷ []
 
+-- pmpcfg0 to pmpcfg3, which hold the configuration of four entries each
 abbrev pub guarded_cfg : Csrs → List (ℕ × ℕ)
 guarded_cfg s =
     (s.pmpcfg0, s.pmpcfg0_n) ∷ (s.pmpcfg1, s.pmpcfg1_n) ∷ (s.pmpcfg2, s.pmpcfg2_n) ∷ (s.pmpcfg3, s.pmpcfg3_n) ∷ []
 
+-- the addresses of the entries 0 to 7, each with the complement kept beside it
 abbrev pub guarded_low : Csrs → List (ℕ × ℕ)
 guarded_low s = (s.pmpaddr0, s.pmpaddr0_n) ∷ (s.pmpaddr1, s.pmpaddr1_n) ∷ (s.pmpaddr2, s.pmpaddr2_n)
     ∷ (s.pmpaddr3, s.pmpaddr3_n) ∷ (s.pmpaddr4, s.pmpaddr4_n) ∷ (s.pmpaddr5, s.pmpaddr5_n) ∷ (s.pmpaddr6, s.pmpaddr6_n)
     ∷ (s.pmpaddr7, s.pmpaddr7_n) ∷ []
 
+-- the addresses of the entries 8 to 15, each with the complement kept beside it
 abbrev pub guarded_high : Csrs → List (ℕ × ℕ)
 guarded_high s = (s.pmpaddr8, s.pmpaddr8_n) ∷ (s.pmpaddr9, s.pmpaddr9_n) ∷ (s.pmpaddr10, s.pmpaddr10_n)
     ∷ (s.pmpaddr11, s.pmpaddr11_n) ∷ (s.pmpaddr12, s.pmpaddr12_n) ∷ (s.pmpaddr13, s.pmpaddr13_n)

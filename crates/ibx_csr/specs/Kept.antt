@@ -11,9 +11,11 @@ use Rattle.ibx_csr.specs.Bits.{legal_of}
 abbrev pub kept_mstatus : ℕ → ℕ
 kept_mstatus v = legal_of Mstatus v
 
+-- a base that is a multiple of 256, always in vectored mode
 abbrev pub kept_mtvec : ℕ → ℕ
 kept_mtvec v = legal_of Mtvec v
 
+-- bit 0 is always 0, as instructions begin at even addresses
 abbrev pub kept_mepc : ℕ → ℕ
 kept_mepc v = legal_of Mepc v
 
@@ -25,6 +27,7 @@ stored_mstatus v = kept_mstatus (if bit_and v mpp_bits == mpp_bits then v else b
 abbrev pub with_low : ℕ → ℕ → ℕ
 with_low count v = count / 2 ^ 32 * 2 ^ 32 + v
 
+-- a write of mcycleh or minstreth: bits 63:32 are replaced, and the low half stays
 abbrev pub with_high : ℕ → ℕ → ℕ
 with_high count v = v * 2 ^ 32 + count % 2 ^ 32
 
@@ -52,6 +55,7 @@ bytes_of (w ∷ ws) = word_byte w 0 ∷ word_byte w 1 ∷ word_byte w 2 ∷ word
 abbrev pub is_locked : ℕ → Bool
 is_locked b = not (bit_and b 0x80 == 0)
 
+-- a locked entry that is the top of a range, which begins at the address of the entry before it
 abbrev pub is_locked_top : ℕ → Bool
 is_locked_top b = bit_and b 0x98 == 0x88
 

@@ -17,6 +17,7 @@ pub record Row : Type 0 where
 abbrev pub one : ℕ → Csr → Row
 one a c = record { first = a; last = a; register = λ _. c }
 
+-- registers of a family, numbered from the first address on
 abbrev pub several : ℕ → ℕ → (ℕ → Csr) → Row
 several a b f = record { first = a; last = b; register = f }
 

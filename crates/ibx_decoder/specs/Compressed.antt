@@ -43,21 +43,27 @@ r_word funct7 rs2 rs1 funct3 rd opcode = i_word (funct7 * 2 ^ 5 + rs2) rs1 funct
 abbrev pub lui : ℕ → ℕ → ℕ
 lui rd upper = u_word upper rd 0x37
 
+-- JAL, a major opcode of its own: a jump by a signed offset of 21 bits, whose bit 0 isn't written
 abbrev pub jal : ℕ → ℕ → ℕ
 jal rd imm = j_word imm rd 0x6f
 
+-- JALR, funct3 0, with the offset 0: a jump to just what rs1 holds
 abbrev pub jalr : ℕ → ℕ → ℕ
 jalr rd rs1 = i_word 0 rs1 0 rd 0x67
 
+-- BEQ, funct3 0 of BRANCH: the offset has 13 bits, of which bit 0 isn't written
 abbrev pub beq : ℕ → ℕ → ℕ → ℕ
 beq rs1 rs2 imm = b_word imm rs2 rs1 0 0x63
 
+-- BNE, funct3 1 of BRANCH, else as BEQ
 abbrev pub bne : ℕ → ℕ → ℕ → ℕ
 bne rs1 rs2 imm = b_word imm rs2 rs1 1 0x63
 
+-- LW, funct3 2 of LOAD: a word at rs1 plus the immediate into rd
 abbrev pub lw : ℕ → ℕ → ℕ → ℕ
 lw rd rs1 imm = i_word imm rs1 2 rd 0x03
 
+-- SW, funct3 2 of STORE: the word in rs2 to rs1 plus the immediate; the form S has no rd
 abbrev pub sw : ℕ → ℕ → ℕ → ℕ
 sw rs2 rs1 imm = s_word imm rs2 rs1 2 0x23
 
@@ -65,30 +71,39 @@ sw rs2 rs1 imm = s_word imm rs2 rs1 2 0x23
 abbrev pub addi : ℕ → ℕ → ℕ → ℕ
 addi rd rs1 imm = i_word imm rs1 0 rd 0x13
 
+-- ANDI, funct3 7 of OP-IMM
 abbrev pub andi : ℕ → ℕ → ℕ → ℕ
 andi rd rs1 imm = i_word imm rs1 7 rd 0x13
 
+-- SLLI, funct3 1 of OP-IMM: only an amount below 32 leaves funct7 at 0
 abbrev pub slli : ℕ → ℕ → ℕ → ℕ
 slli rd rs1 amount = r_word 0 amount rs1 1 rd 0x13
 
+-- SRLI, funct3 5 of OP-IMM with funct7 0: zeros come in at the left
 abbrev pub srli : ℕ → ℕ → ℕ → ℕ
 srli rd rs1 amount = r_word 0 amount rs1 5 rd 0x13
 
+-- SRAI, SRLI but for bit 30 of the word, which is 1: copies of the sign come in at the left
 abbrev pub srai : ℕ → ℕ → ℕ → ℕ
 srai rd rs1 amount = r_word 0x20 amount rs1 5 rd 0x13
 
+-- ADD, funct3 0 of OP with funct7 0; C.MV is this with rs1 x0
 abbrev pub add : ℕ → ℕ → ℕ → ℕ
 add rd rs1 rs2 = r_word 0 rs2 rs1 0 rd 0x33
 
+-- SUB, ADD but for bit 30 of the word, which is 1: rs2 is taken from rs1
 abbrev pub sub : ℕ → ℕ → ℕ → ℕ
 sub rd rs1 rs2 = r_word 0x20 rs2 rs1 0 rd 0x33
 
+-- XOR, funct3 4 of OP
 abbrev pub xor : ℕ → ℕ → ℕ → ℕ
 xor rd rs1 rs2 = r_word 0 rs2 rs1 4 rd 0x33
 
+-- OR, funct3 6 of OP
 abbrev pub or : ℕ → ℕ → ℕ → ℕ
 or rd rs1 rs2 = r_word 0 rs2 rs1 6 rd 0x33
 
+-- AND, funct3 7 of OP
 abbrev pub and : ℕ → ℕ → ℕ → ℕ
 and rd rs1 rs2 = r_word 0 rs2 rs1 7 rd 0x33
 
@@ -102,6 +117,7 @@ ebreak = 0x00100073
 abbrev pub wide_rd : ℕ → ℕ
 wide_rd h = bits_at h 7 5
 
+-- rs2 of the forms CR and CSS, any of the 32 registers
 abbrev pub wide_rs2 : ℕ → ℕ
 wide_rs2 h = bits_at h 2 5
 
@@ -109,6 +125,7 @@ wide_rs2 h = bits_at h 2 5
 abbrev pub high_reg : ℕ → ℕ
 high_reg h = 8 + bits_at h 7 3
 
+-- rd' of the forms CIW and CL, and rs2' of the forms CS and CA
 abbrev pub low_reg : ℕ → ℕ
 low_reg h = 8 + bits_at h 2 3
 
@@ -136,6 +153,7 @@ sign_part sign bits wide = sign * (2 ^ wide - 2 ^ (bits - 1))
 abbrev pub imm_six : ℕ → ℕ
 imm_six h = sign_part (bits_at h 12 1) 6 12 + bits_at h 2 5
 
+-- of C.LUI: nzimm[17] in bit 12, nzimm[16:12] in bits 6:2, as the bits 31:12 that LUI holds
 abbrev pub imm_lui : ℕ → ℕ
 imm_lui h = sign_part (bits_at h 12 1) 6 20 + bits_at h 2 5
 

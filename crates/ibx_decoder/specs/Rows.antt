@@ -18,9 +18,11 @@ use Rattle.ibx_decoder.specs.Table.{Row, first_fit}
 abbrev pub rd : ℕ → ℕ
 rd w = bits_at w 7 5
 
+-- the first source in bits 19:15; CSRRWI, CSRRSI and CSRRCI have their immediate there
 abbrev pub rs1 : ℕ → ℕ
 rs1 w = bits_at w 15 5
 
+-- the second source in bits 24:20, of the forms R, S and B
 abbrev pub rs2 : ℕ → ℕ
 rs2 w = bits_at w 20 5
 
@@ -28,15 +30,19 @@ rs2 w = bits_at w 20 5
 abbrev pub imm_i : ℕ → ℕ
 imm_i w = sign_extended 12 (w / 2 ^ 20)
 
+-- of stores: imm[11:5] in bits 31:25, imm[4:0] in bits 11:7, where other forms have rd
 abbrev pub imm_s : ℕ → ℕ
 imm_s w = sign_extended 12 (w / 2 ^ 25 * 2 ^ 5 + bits_at w 7 5)
 
+-- of branches: imm[12|10:5] in bits 31:25, imm[4:1|11] in bits 11:7; bit 0 is 0
 abbrev pub imm_b : ℕ → ℕ
 imm_b w = sign_extended 13 (w / 2 ^ 31 * 2 ^ 12 + bits_at w 7 1 * 2 ^ 11 + bits_at w 25 6 * 2 ^ 5 + bits_at w 8 4 * 2)
 
+-- of LUI and AUIPC: imm[31:12] in place, and the 12 bits below are 0
 abbrev pub imm_u : ℕ → ℕ
 imm_u w = w / 2 ^ 12 * 2 ^ 12
 
+-- of JAL: imm[20|10:1|11|19:12] in bits 31:12; bit 0 is 0
 abbrev pub imm_j : ℕ → ℕ
 imm_j w =
     sign_extended 21 (w / 2 ^ 31 * 2 ^ 20 + bits_at w 12 8 * 2 ^ 12 + bits_at w 20 1 * 2 ^ 11 + bits_at w 21 10 * 2)
@@ -45,6 +51,7 @@ imm_j w =
 abbrev pub shamt : ℕ → ℕ
 shamt w = bits_at w 20 5
 
+-- the CSR's address of 12 bits, in bits 31:20
 abbrev pub csr : ℕ → ℕ
 csr w = w / 2 ^ 20
 

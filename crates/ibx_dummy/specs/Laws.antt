@@ -29,6 +29,7 @@ stepped_back x = if nat_le (2 ^ 31) x then bit_xor x 0x80200003 * 2 + 1 else x *
 abbrev pub funct3_of : ℕ → ℕ
 funct3_of kind = if kind == 2 then 4 else if kind == 3 then 7 else 0
 
+-- funct7 is 1 for MUL and DIV, which are of the M extension, and 0 for ADD and AND
 abbrev pub funct7_of : ℕ → ℕ
 funct7_of kind = if (kind == 1) || (kind == 2) then 1 else 0
 

@@ -98,6 +98,7 @@ segment_fault file i = only_if (overruns (length file) (program_header file i)) 
 unfoldable pub outside_fault : List ℕ → Ram → ℕ → Option ElfFault
 outside_fault file ram i = only_if (leaves ram (program_header file i)) (OutsideRam i)
 
+-- file bytes of two segments at one address; a pair has its fault only with the lower number first
 unfoldable pub overlap_fault : List ℕ → ℕ → ℕ → Option ElfFault
 overlap_fault file i j =
     only_if (nat_lt i j && shares_address (program_header file i) (program_header file j)) (Overlap i j)

@@ -12,30 +12,39 @@ field file offset (suc count) = slice_index file offset + 256 * field file (suc 
 abbrev pub ei_class : List ℕ → ℕ
 ei_class file = slice_index file 4
 
+-- the order of bytes in the file, 1 (ELFDATA2LSB) for the lowest first
 abbrev pub ei_data : List ℕ → ℕ
 ei_data file = slice_index file 5
 
+-- the version of the format as the identification gives it, 1 (EV_CURRENT)
 abbrev pub ei_version : List ℕ → ℕ
 ei_version file = slice_index file 6
 
+-- the kind of object file, 2 (ET_EXEC) for an executable one
 abbrev pub e_type : List ℕ → ℕ
 e_type file = field file 16 2
 
+-- the architecture that the file is for, 243 (EM_RISCV) for RISC-V
 abbrev pub e_machine : List ℕ → ℕ
 e_machine file = field file 18 2
 
+-- the version of the format a second time, as a word
 abbrev pub e_version : List ℕ → ℕ
 e_version file = field file 20 4
 
+-- the address at which the program begins
 abbrev pub e_entry : List ℕ → ℕ
 e_entry file = field file 24 4
 
+-- the offset in the file of the first program header
 abbrev pub e_phoff : List ℕ → ℕ
 e_phoff file = field file 28 4
 
+-- the bytes of one program header, 32 in an ELF32 file
 abbrev pub e_phentsize : List ℕ → ℕ
 e_phentsize file = field file 42 2
 
+-- the number of program headers, or 0xffff (PN_XNUM) where the number stands elsewhere
 abbrev pub e_phnum : List ℕ → ℕ
 e_phnum file = field file 44 2
 

@@ -5,6 +5,7 @@ use Rattle.std.specs.Prelude.{ℕ, zero, suc, ◌*◌, ◌/◌, ◌%◌, ◌^◌
 abbrev pub shifted_left : ℕ → ℕ → ℕ
 shifted_left x bits = x * 2 ^ bits % 2 ^ 32
 
+-- the lowest bits fall away, and zeros come in from above
 abbrev pub shifted_right : ℕ → ℕ → ℕ
 shifted_right x bits = x / 2 ^ bits
 

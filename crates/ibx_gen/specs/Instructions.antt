@@ -17,6 +17,7 @@ use Rattle.ibx_gen.specs.Words.{first_of, offset_of, operation_of, program, resu
 abbrev pub alu_op : ℕ → AluOp
 alu_op s = slice_index_or (Add ∷ Sll ∷ Slt ∷ Sltu ∷ Xor ∷ Srl ∷ Or ∷ And ∷ []) s Add
 
+-- those of the M extension in the order of funct3 (Unprivileged ISA, 7)
 abbrev pub md_op : ℕ → MdOp
 md_op s = slice_index_or (Mul ∷ Mulh ∷ Mulhsu ∷ Mulhu ∷ Div ∷ Divu ∷ Rem ∷ Remu ∷ []) s Mul
 

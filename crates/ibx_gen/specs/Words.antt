@@ -31,15 +31,19 @@ u_type upper rd opcode = upper * 2 ^ 12 + rd * 2 ^ 7 + opcode
 abbrev pub result_of : ℕ → ℕ
 result_of x = 8 + bits_at x 8 3
 
+-- the first source register, by bits 13:11 of the draw
 abbrev pub first_of : ℕ → ℕ
 first_of x = 8 + bits_at x 11 3
 
+-- the second source register, by bits 16:14
 abbrev pub second_of : ℕ → ℕ
 second_of x = 8 + bits_at x 14 3
 
+-- funct3 of an operation with registers, bits 5:3
 abbrev pub operation_of : ℕ → ℕ
 operation_of x = bits_at x 3 3
 
+-- the offset of a load or store, bits 30:20, so never negative
 abbrev pub offset_of : ℕ → ℕ
 offset_of x = bits_at x 20 11
 

@@ -74,6 +74,7 @@ matches tag addr = payload_of 22 tag == 2 ^ 21 + addr / 2 ^ 11
 abbrev pub is_bad_tag : ℕ → Bool
 is_bad_tag tag = not (syndrome_of 22 6 tag == 0)
 
+-- the same of a data word: its syndrome isn't 0, that of 32 bits with 7 check bits
 abbrev pub is_bad_word : ℕ → Bool
 is_bad_word word = not (syndrome_of 32 7 word == 0)
 
@@ -81,6 +82,7 @@ is_bad_word word = not (syndrome_of 32 7 word == 0)
 abbrev pub is_bad0 : Look → ℕ → Bool
 is_bad0 l addr = is_bad_tag l.tag0 || (matches l.tag0 addr && is_bad_word l.data0)
 
+-- way 1: its data word counts only where way 0 doesn't match, as a hit takes the lowest matching way
 abbrev pub is_bad1 : Look → ℕ → Bool
 is_bad1 l addr = is_bad_tag l.tag1 || (not (matches l.tag0 addr) && matches l.tag1 addr && is_bad_word l.data1)
 

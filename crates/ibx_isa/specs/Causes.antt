@@ -17,6 +17,7 @@ breakpoint = 3
 abbrev pub load_fault : ℕ
 load_fault = 5
 
+-- the access fault of a store
 abbrev pub store_fault : ℕ
 store_fault = 7
 
@@ -24,5 +25,6 @@ store_fault = 7
 abbrev pub user_call : ℕ
 user_call = 8
 
+-- the environment call from M mode
 abbrev pub machine_call : ℕ
 machine_call = 11

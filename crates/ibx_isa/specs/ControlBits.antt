@@ -6,15 +6,19 @@ use Rattle.std.specs.Prelude.{ℕ}
 abbrev pub mie_bit : ℕ
 mie_bit = 0x8
 
+-- MPIE, bit 7: a trap saves MIE here, and MRET restores it
 abbrev pub mpie_bit : ℕ
 mpie_bit = 0x80
 
+-- MPP, bits 12:11: the mode to which MRET returns
 abbrev pub mpp_bits : ℕ
 mpp_bits = 0x1800
 
+-- MPRV, bit 17: loads and stores are checked as of the mode in MPP
 abbrev pub mprv_bit : ℕ
 mprv_bit = 0x20000
 
+-- TW, bit 21: WFI in U mode is an illegal instruction
 abbrev pub tw_bit : ℕ
 tw_bit = 0x200000
 
@@ -22,6 +26,7 @@ tw_bit = 0x200000
 abbrev pub cy_bit : ℕ
 cy_bit = 0x1
 
+-- IR, bit 2: minstret does not count
 abbrev pub ir_bit : ℕ
 ir_bit = 0x4
 
@@ -30,17 +35,22 @@ ir_bit = 0x4
 abbrev pub icache_enable : ℕ
 icache_enable = 0x1
 
+-- bit 1: the time of an instruction is independent of its operands
 abbrev pub data_ind_timing : ℕ
 data_ind_timing = 0x2
 
+-- bit 2: dummy instructions are inserted among the real ones
 abbrev pub dummy_instr_en : ℕ
 dummy_instr_en = 0x4
 
+-- bits 5:3: the mask of the distance between dummy instructions
 abbrev pub dummy_instr_mask : ℕ
 dummy_instr_mask = 0x38
 
+-- bit 6: set by an exception, and cleared by MRET
 abbrev pub sync_exc_seen : ℕ
 sync_exc_seen = 0x40
 
+-- bit 7: set by an exception that comes while bit 6 is set; MRET leaves it
 abbrev pub double_fault_seen : ℕ
 double_fault_seen = 0x80

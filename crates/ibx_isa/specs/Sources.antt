@@ -15,6 +15,7 @@ source1 (MulDiv op rd rs1 rs2) = rs1
 source1 (Csr op rd src false addr) = src
 source1 _ = 0
 
+-- rs2, which only branches, stores and operations on two registers have
 abbrev pub source2 : Insn → ℕ
 source2 (Branch op rs1 rs2 imm) = rs2
 source2 (Store size rs1 rs2 imm) = rs2

@@ -11,6 +11,7 @@ use Rattle.ibx_asm.specs.Dis.{dis_of}
 abbrev pub first_half : List ℕ → ℕ
 first_half code = from_le_bytes w16 code
 
+-- the first four bytes as a word, which a 32-bit instruction takes
 abbrev pub first_word : List ℕ → ℕ
 first_word code = from_le_bytes w32 code
 

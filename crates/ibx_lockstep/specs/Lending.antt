@@ -7,6 +7,7 @@ use Rattle.ibx_lockstep.specs.contracts.pair.Pair.{the_row}
 abbrev pub with_main : {S I O : Type 0} → Pair S I O → S → Pair S I O
 with_main p s = record p { main = s }
 
+-- the shadow is replaced; main stays, and so do the pair's other parts
 abbrev pub with_shadow : {S I O : Type 0} → Pair S I O → S → Pair S I O
 with_shadow p s = record p { shadow = s }
 
@@ -14,5 +15,6 @@ with_shadow p s = record p { shadow = s }
 abbrev pub LendsMain : (C I O : RattleType) → MutBor (Pair C.Denot I.Denot O.Denot) → MutBor C.Denot → Fml
 LendsMain C I O p r = Lends (the_row C I O) C p r (with_main p.now)
 
+-- the shadow is lent: what the borrower leaves of it is the shadow of the pair afterwards
 abbrev pub LendsShadow : (C I O : RattleType) → MutBor (Pair C.Denot I.Denot O.Denot) → MutBor C.Denot → Fml
 LendsShadow C I O p r = Lends (the_row C I O) C p r (with_shadow p.now)

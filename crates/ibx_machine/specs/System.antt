@@ -19,6 +19,7 @@ use Rattle.ibx_icache.specs.WordPort.{reset_of as port_reset, looked}
 use Rattle.ibx_icache.specs.declared.writes.Filling.TheVariants.{Nothing, Clears, Stores}
 use Rattle.ibx_id.specs.Turns.{empty_stage}
 
+-- the core, the register words, the cache's tags and data words, memory, both ports, and the number of the cycle
 pub record System : Type 0 where
   pub main : Core
   pub regs : List ℕ
@@ -29,6 +30,7 @@ pub record System : Type 0 where
   pub dport : PortState
   pub cycle : ℕ
 
+-- the core at reset: every unit is idle, the stage is empty, and fetching starts at the entry
 abbrev pub core_reset : ℕ → Core
 core_reset entry = record {
   fetch = fetch_reset entry;
@@ -46,6 +48,7 @@ unfoldable pub image_words : Placed → ℕ → ℕ → List ℕ
 image_words image addr zero = []
 image_words image addr (suc n) = encode_of 32 7 (image_word image addr) ∷ image_words image (addr + 4) n
 
+-- at reset: all registers, tags and lines are codewords of 0, RAM holds the image, and the ports follow the plan
 unfoldable pub first_system : Setup → System
 first_system s = record {
   main = core_reset s.image.entry;
@@ -62,9 +65,11 @@ first_system s = record {
 abbrev pub set_slot : ℕ → ℕ
 set_slot addr = addr / 8 % 256 * 2
 
+-- a slot has two data words, and bit 2 of the address selects one
 abbrev pub line_place : ℕ → ℕ → ℕ
 line_place slot addr = slot * 2 + addr / 4 % 2
 
+-- the wires into the core; the grants stay low until its requests are known
 unfoldable pub in_of : Setup → System → In
 in_of s x = record {
   irsp = answer_wires x.iport;
@@ -83,15 +88,18 @@ in_of s x = record {
   mul = s.mul;
 }
 
+-- a register write is stored as a codeword
 abbrev pub put_reg : Option (ℕ × ℕ) → List ℕ → List ℕ
 put_reg None regs = regs
 put_reg (Some (n, value)) regs = slice_set regs n (encode_of 32 7 value)
 
+-- the tags after the cache's write: clearing a set makes both its tags invalid
 abbrev pub put_tags : Filling → List ℕ → List ℕ
 put_tags Nothing tags = tags
 put_tags (Clears set) tags = slice_set (slice_set tags (2 * set) 0xa800000) (2 * set + 1) 0xa800000
 put_tags (Stores slot tag word0 word1) tags = slice_set tags slot tag
 
+-- the data words after it: storing a line writes both words of its slot
 abbrev pub put_lines : Filling → List ℕ → List ℕ
 put_lines (Stores slot tag word0 word1) lines = slice_set (slice_set lines (2 * slot) word0) (2 * slot + 1) word1
 put_lines _ lines = lines
@@ -112,11 +120,13 @@ system_by c o i x =
       cycle = x.cycle + 1;
     }
 
+-- the event with this cycle in place of what the core put there
 abbrev pub at_cycle : ℕ → Event → Event
 at_cycle c (Retire cycle pc word rd value mem ctl ops) = Retire c pc word rd value mem ctl ops
 at_cycle c (Trap cycle pc word cause tval addr) = Trap c pc word cause tval addr
 at_cycle c (Irq cycle pc cause) = Irq c pc cause
 
+-- the same, where there is an event
 abbrev pub happens_at : ℕ → Option Event → Option Event
 happens_at c None = None
 happens_at c (Some e) = Some (at_cycle c e)
@@ -128,18 +138,23 @@ pub record Shown : Type 0 where
   pub happens : Option Event
   pub alerts : Bool
 
+-- both requests, the event with its cycle, and the alert, from the wires out
 abbrev pub shown_by : Out → ℕ → Shown
 shown_by o c = record { fetch = o.fetch; load_store = o.load_store; happens = happens_at c o.happens; alerts = o.alerts }
 
+-- what the step of this system shows
 unfoldable pub shown_of : Setup → System → Shown
 shown_of s x = let i = in_of s x in shown_by (core_out_by (cycle_of x.main i) x.main i) x.cycle
 
+-- the system after a step, by what the core does in it and the wires in
 abbrev pub next_from : Cycle → In → System → System
 next_from c i x = system_by c (core_out_by c x.main i) i x
 
+-- one step of the system, which is one cycle of the clock
 unfoldable pub system_next : Setup → System → System
 system_next s x = next_from (cycle_of x.main (in_of s x)) (in_of s x) x
 
+-- the events of a run with that of an earlier step before them, where it has one
 abbrev pub with_event : Option Event → List Event → List Event
 with_event None events = events
 with_event (Some e) events = e ∷ events

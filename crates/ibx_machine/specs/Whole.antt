@@ -35,6 +35,7 @@ pub record IsPlaced (s : Setup) : Type 0 where
   pub lines : (c : ℕ) → lines_in (settings_of s) c < 2 ^ 32
   pub bytes : (addr : ℕ) → image_byte s.image addr < 256
 
+-- the item in the stage with its kind, program counter and word, where one is there
 abbrev pub staged_in : IdState → Option Staged
 staged_in id = if id.valid then Some (record { kind = id.kind; pc = id.pc; word = id.word }) else None
 
@@ -42,6 +43,7 @@ staged_in id = if id.valid then Some (record { kind = id.kind; pc = id.pc; word 
 abbrev pub shown_in : Core → Shown
 shown_in x = record { stage = staged_in x.id; f_addr = x.fetch.f_addr; next_pc = x.next_pc; csrs = values x.csrs; dummies = x.dummies }
 
+-- the requests on both ports in cycle c
 abbrev pub wires_in : Setup → ℕ → BusLine
 wires_in s c = record { fetch = (shown_of s (system_at s c)).fetch; load_store = (shown_of s (system_at s c)).load_store }
 
@@ -51,12 +53,15 @@ wires_in s c = record { fetch = (shown_of s (system_at s c)).fetch; load_store =
 abbrev pub HasEvents : Setup → Type 0
 HasEvents s = (n : ℕ) → n < 2 ^ 62 → run s n (first_system s) ≡ history s n
 
+-- in every cycle both ports carry the requests that the history tells
 abbrev pub HasWires : Setup → Type 0
 HasWires s = (c : ℕ) → c < 2 ^ 62 → wires_in s c ≡ bus_line s c
 
+-- no cycle raises an alert
 abbrev pub IsQuiet : Setup → Type 0
 IsQuiet s = (c : ℕ) → c < 2 ^ 62 → (shown_of s (system_at s c)).alerts ≡ false
 
+-- before every cycle the core's stage, addresses, CSRs and dummies are those of the history
 abbrev pub ShowsHistory : Setup → Type 0
 ShowsHistory s = (c : ℕ) → c < 2 ^ 62 → shown_in (system_at s c).main ≡ shown s c
 
@@ -67,6 +72,7 @@ pub record HoldsWords (s : Setup) (c : ℕ) (x : System) (h y : Story) : Type 0 
   pub words : (i : ℕ) → 4 * i < s.image.ram.size
       → slice_index x.mem.words i ≡ encode_of 32 7 (read_bytes (memory_at (image_memory s.image) y.writes c) (s.image.ram.base + 4 * i) 4)
 
+-- before every cycle registers and RAM hold what the history left, by the words above
 abbrev pub HoldsValues : Setup → Type 0
 HoldsValues s =
     (c : ℕ) → c < 2 ^ 62

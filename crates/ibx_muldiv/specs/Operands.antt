@@ -10,6 +10,7 @@ use Rattle.ibx_muldiv.specs.declared.operands.Operands.{Operands}
 abbrev pub sign : ℕ → Bool
 sign a = is_negative (signed a)
 
+-- the absolute value of a word in two's complement: that of the least number is 2^31, which still fits a word
 abbrev pub magnitude : ℕ → ℕ
 magnitude a = unsigned_abs (signed a)
 

@@ -103,14 +103,17 @@ abbrev pub iwait_of : Entry → Option Wait
 iwait_of (entry.Iwait wait) = Some wait
 iwait_of _ = None
 
+-- a dwait line: of one transaction of the data port, the cycles to its grant, and from there to its answer
 abbrev pub dwait_of : Entry → Option Wait
 dwait_of (entry.Dwait wait) = Some wait
 dwait_of _ = None
 
+-- an irq line: from its cycle on the interrupt lines are its mask
 abbrev pub change_of : Entry → Option Change
 change_of (entry.Irq change) = Some change
 change_of _ = None
 
+-- a flip line: the cycle, and the site of the bit that flips
 abbrev pub planned_flip : Entry → Option Flip
 planned_flip (entry.Flip flip) = Some flip
 planned_flip _ = None

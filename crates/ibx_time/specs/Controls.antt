@@ -67,9 +67,11 @@ is_woken c lines = not (bit_and lines c.mie == 0)
 abbrev pub ctl_entered : Ctl → Bool → Ctl
 ctl_entered c irq = ctl_of (with_trap_regs (values_of c) (enter_of (trap_regs (values_of c)) 0 0 irq 0))
 
+-- the mode is that of MPP, MIE is MPIE (Privileged ISA, 3.1.6.1), and cpuctrl forgets the exception
 abbrev pub ctl_left : Ctl → Ctl
 ctl_left c = ctl_of (with_trap_regs (values_of c) (leave_of (trap_regs (values_of c))))
 
+-- the write of a CSR that is none of these registers changes nothing here
 abbrev pub ctl_written : Ctl → ℕ → ℕ → Ctl
 ctl_written c addr value = ctl_of (csr_write (values_of c) addr value)
 

@@ -17,6 +17,7 @@ use Rattle.ibx_isa.specs.ControlBits.{dummy_instr_en, dummy_instr_mask}
 abbrev pub enables_dummies : Ctl → Bool
 enables_dummies c = not (bit_and c.cpuctrl dummy_instr_en == 0)
 
+-- dummy_instr_mask, bits 5:3 of cpuctrl
 abbrev pub dummy_mask : Ctl → ℕ
 dummy_mask c = bit_and c.cpuctrl dummy_instr_mask / 8
 

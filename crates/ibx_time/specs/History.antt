@@ -85,6 +85,7 @@ abbrev pub item_by : Setup → Story → Option Choice → Item
 item_by s h (Some choice) = item_of (settings_of s) h.times.ctl (view_with s h choice)
 item_by s h None = dummy_item (settings_of s) h.times.dummies
 
+-- what decides the cycles of the item that is admitted at t
 unfoldable pub item_at : Setup → ℕ → Story → Item
 item_at s t h = item_by s h (choice_at s t h)
 
@@ -93,6 +94,7 @@ abbrev pub access_by : Setup → Story → Option Choice → Option Access
 access_by s h (Some choice) = access_of h.state (instruction_of (view_with s h choice).word)
 access_by s h None = None
 
+-- the access of the item that is admitted at t, where it is a load or store
 unfoldable pub access_at : Setup → ℕ → Story → Option Access
 access_at s t h = access_by s h (choice_at s t h)
 

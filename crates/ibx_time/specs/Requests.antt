@@ -33,6 +33,7 @@ pub record Switch : Type 0 where
 abbrev pub line_of : ℕ → ℕ
 line_of a = a / 8
 
+-- bit 2 of the address: the second word of the line
 abbrev pub is_upper : ℕ → Bool
 is_upper a = a / 4 % 2 == 1
 
@@ -137,6 +138,7 @@ second_answer k y t = answer_time k.plan.iwaits (suc (made y)) (first_answer k y
 abbrev pub first_grant : Settings → Past → ℕ → ℕ
 first_grant k y t = grant_time k.plan.iwaits (made y) (t + 1)
 
+-- the line's second word is issued in the cycle of the first one's answer
 abbrev pub second_grant : Settings → Past → ℕ → ℕ
 second_grant k y t = grant_time k.plan.iwaits (suc (made y)) (first_answer k y t)
 
@@ -144,6 +146,7 @@ second_grant k y t = grant_time k.plan.iwaits (suc (made y)) (first_answer k y t
 abbrev pub half_grant : ℕ → ℕ → ℕ → ℕ
 half_grant a grant0 grant1 = if is_upper a then grant1 else grant0
 
+-- when the word at an address of a stored line was granted, and 0 without a line
 unfoldable pub fill_grant : Option Fill → ℕ → ℕ
 fill_grant None a = 0
 fill_grant (Some x) a = half_grant a x.grant0 x.grant1

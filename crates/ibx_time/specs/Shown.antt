@@ -23,6 +23,7 @@ staged_by s h (AnInterrupt number) = record { kind = 2; pc = h.state.pc; word = 
 staged_by s h ADummy = record { kind = 1; pc = h.state.pc; word = dummy_word h.times.dummies.lfsr }
 staged_by s h AnInstruction = record { kind = 0; pc = h.state.pc; word = (view_with s h (brought_parcels s h)).word }
 
+-- the stage is empty where no item is open, and else shows the one admitted at t
 abbrev pub staged : Setup → Story → Option ℕ → Option Staged
 staged s h None = None
 staged s h (Some t) = Some (staged_by s h (kind_of s t h))

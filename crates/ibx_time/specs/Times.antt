@@ -36,13 +36,16 @@ abbrev pub portion_number : ℕ → Bool → ℕ
 portion_number n false = n
 portion_number n true = suc n
 
+-- the second portion waits for the first one's answer
 abbrev pub portion_issue : List Wait → ℕ → ℕ → Bool → ℕ
 portion_issue waits n e false = e
 portion_issue waits n e true = answer_time waits n e + 1
 
+-- the issue and the waits of the portion's own transaction give its grant
 abbrev pub portion_grant : List Wait → ℕ → ℕ → Bool → ℕ
 portion_grant waits n e second = grant_time waits (portion_number n second) (portion_issue waits n e second)
 
+-- the answer comes at least one cycle after the grant
 abbrev pub portion_answer : List Wait → ℕ → ℕ → Bool → ℕ
 portion_answer waits n e second = answer_time waits (portion_number n second) (portion_issue waits n e second)
 

@@ -63,6 +63,7 @@ file_answer_by name true fault ran = refusal 5 (too_long_line name)
 file_answer_by name false (Some fault) ran = refusal 5 (fault_line name fault)
 file_answer_by name false None ran = ran
 
+-- the same to its bytes, with its faults and its image in this RAM
 abbrev pub file_answer : List ℕ → Ram → (Placed → Answer) → List ℕ → Answer
 file_answer name ram ran bytes =
     file_answer_by name (nat_lt file_limit (length bytes)) (first_fault bytes ram) (ran (image_of bytes ram))
@@ -73,6 +74,7 @@ plan_answer_by name true read followed = refusal 6 (too_long_line name)
 plan_answer_by name false (Err fault) followed = refusal 6 (plan_fault_line name fault)
 plan_answer_by name false (Ok plan) followed = followed plan
 
+-- the same to its text, which is read within these bounds
 abbrev pub plan_answer : List ℕ → Bounds → (PlanValue → Answer) → List ℕ → Answer
 plan_answer name bounds followed text = plan_answer_by name (nat_lt plan_limit (length text)) (plan_of bounds text) followed
 
@@ -144,6 +146,7 @@ abbrev pub flips_of : Task → ℕ
 flips_of Run = 0
 flips_of Inject = 1
 
+-- what a plan is read within: the words of RAM, the flips of its command, and the budget of cycles
 abbrev pub bounds_of : Task → Options → Bounds
 bounds_of task options = record { ram_words = options.ram.size / 4; flips = flips_of task; cycles = options.cycles }
 
@@ -188,6 +191,7 @@ asm_answer_by name true code = refusal 12 (text_too_long_line name)
 asm_answer_by name false (Err fault) = refusal 12 (asm_fault_line name fault)
 asm_answer_by name false (Ok code) = written_answer (wrapped code)
 
+-- the same to its bytes, with the code that they stand for
 abbrev pub asm_answer : List ℕ → List ℕ → Answer
 asm_answer name text = asm_answer_by name (nat_lt text_limit (length text)) (denoted text)
 
@@ -195,6 +199,7 @@ asm_answer name text = asm_answer_by name (nat_lt text_limit (length text)) (den
 abbrev pub listed : Placed → Answer
 listed image = written_answer (listing_of image)
 
+-- the answer of `dis`: the listing of its image, or a refusal as for a file that is run
 abbrev pub dis_answer : List ℕ → Ram → List ℕ → Answer
 dis_answer name ram bytes = file_answer name ram listed bytes
 

@@ -13,18 +13,23 @@ use Rattle.ibx_elf.specs.declared.fault.ElfFault.{ElfFault}
 use Rattle.ibx_elf.specs.declared.fault.ElfFault.TheVariants.{Short, Magic, Class, Order, Version, Kind, Machine}
 use Rattle.ibx_elf.specs.declared.fault.ElfFault.TheVariants.{Headers, TooMany, Segment, OutsideRam, Overlap, Entry}
 
+-- status 2: the words don't fit
 abbrev pub bad_words_line : List ℕ
 bad_words_line = codes "ibex: bad words\n"
 
+-- status 3: the file of this name can't be read
 abbrev pub cannot_read_line : List ℕ → List ℕ
 cannot_read_line name = codes "ibex: cannot read " ++ name ++ codes "\n"
 
+-- status 4: standard output can't be written
 abbrev pub cannot_write_line : List ℕ
 cannot_write_line = codes "ibex: cannot write\n"
 
+-- status 5 for a file and 6 for a plan: it has more bytes than its limit
 abbrev pub too_long_line : List ℕ → List ℕ
 too_long_line name = codes "ibex: " ++ name ++ codes ": too long\n"
 
+-- status 7: memory ran out
 abbrev pub out_of_memory_line : List ℕ
 out_of_memory_line = codes "ibex: out of memory\n"
 
@@ -60,6 +65,7 @@ unfoldable pub fault_text : ElfFault → List ℕ
 fault_text fault = codes ": elf fault" ++ spaced (fault_number fault) ++ flat_map spaced (fault_indices fault) ++ codes
     "\n"
 
+-- status 5: the first fault of an ELF file, by its number and the program headers it names
 abbrev pub fault_line : List ℕ → ElfFault → List ℕ
 fault_line name fault = codes "ibex: " ++ name ++ fault_text fault
 
@@ -78,9 +84,11 @@ plan_fault_text (plan.TooMany line) = codes ": plan line" ++ spaced line ++ code
 plan_fault_text plan.NoFlip = codes ": no flip\n"
 plan_fault_text plan.Memory = codes ": no memory\n"
 
+-- status 6: the first fault of a plan, by its line where it has one
 abbrev pub plan_fault_line : List ℕ → PlanFault → List ℕ
 plan_fault_line name fault = codes "ibex: " ++ name ++ plan_fault_text fault
 
+-- status 12: the text for `asm` has more bytes than its limit
 abbrev pub text_too_long_line : List ℕ → List ℕ
 text_too_long_line name = codes "ibex: " ++ name ++ codes ": text too long\n"
 
@@ -95,5 +103,6 @@ unfoldable pub asm_fault_text : AsmFault → List ℕ
 asm_fault_text (asm.Line line kind) = codes ": asm line" ++ spaced line ++ asm_kind_text kind
 asm_fault_text asm.Memory = codes ": no memory\n"
 
+-- status 12: the first refused line of the text for `asm`, by its number
 abbrev pub asm_fault_line : List ℕ → AsmFault → List ℕ
 asm_fault_line name fault = codes "ibex: " ++ name ++ asm_fault_text fault

@@ -5,6 +5,7 @@ use Rattle.std.specs.Prelude.{ℕ, ◌-◌, ◌^◌, ◌/◌, Bool, not, bit_and
 abbrev pub has_some : ℕ → ℕ → Bool
 has_some word bits = not (bit_and word bits == 0)
 
+-- none of these bits is 0 in the word; so MPP is M mode only where both of its bits are 1
 abbrev pub has_all : ℕ → ℕ → Bool
 has_all word bits = bit_and word bits == bits
 
@@ -12,6 +13,7 @@ has_all word bits = bit_and word bits == bits
 abbrev pub cleared : ℕ → ℕ → ℕ
 cleared word bits = bit_and word (2 ^ 32 - 1 - bits)
 
+-- these bits become 1, and the word's other bits stay as they were
 abbrev pub set : ℕ → ℕ → ℕ
 set word bits = bit_or word bits
 

@@ -24,6 +24,7 @@ is_issued k x q c = nat_lt q (length x.enters + 3) && issue k x q == c
 abbrev pub request_by : Settings → Stream → ℕ → ℕ → Option ℕ
 request_by k x q c = if is_issued k x q c then Some (word_addr x q) else None
 
+-- by the time equations, from the count of words that are requested before cycle c
 abbrev pub request_in : Settings → Stream → ℕ → Option ℕ
 request_in k x c = request_by k x (requested k x c) c
 
@@ -44,5 +45,6 @@ answer_by s log x q c =
     answer_if (is_answered (settings_of s) x q c) (is_unmapped s (last_of x q))
     (word_at s log (past (settings_of s) x q).grant (last_of x q))
 
+-- the answer of cycle c by the time equations, to the last request before it
 abbrev pub answer_in : Setup → List Write → Stream → ℕ → WordAns
 answer_in s log x c = answer_by s log x (requested (settings_of s) x c) c

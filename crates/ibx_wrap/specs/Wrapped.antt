@@ -14,6 +14,7 @@ code_address = 0x00100080
 abbrev pub half : ℕ → List ℕ
 half n = to_le_bytes w16 n
 
+-- a field of 32 bits, such as an address, an offset or a size (Elf32_Addr, Elf32_Off, Elf32_Word)
 abbrev pub word : ℕ → List ℕ
 word n = to_le_bytes w32 n
 
