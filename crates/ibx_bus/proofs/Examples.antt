@@ -7,18 +7,23 @@ use Rattle.ibx_bus.specs.PortTimes.{Call, IsPolite, answered_in, granted_in, iss
 use Rattle.ibx_bus.specs.PortTimes.{answer_times, grant_time, answer_time, waits_of}
 use Rattle.ibx_isa.specs.Wires.{fetch_wires, no_request}
 
+-- the list of waits: the first transaction waits for its grant and for its answer, the second for neither
 abbrev waits : List Wait
 waits = record { grant = 2; answer = 1 } ∷ record { grant = 0; answer = 0 } ∷ []
 
+-- a call with this request, where memory is empty
 abbrev call : Req → Call
 call r = record { request = r; memory = record { base = 0; words = [] } }
 
+-- a call that requests the word at 0
 abbrev asks : Call
 asks = call (fetch_wires 0)
 
+-- a call without a request
 abbrev rests : Call
 rests = call no_request
 
+-- the ten calls, in cycles 0 to 9
 abbrev calls : List Call
 calls = asks ∷ asks ∷ asks ∷ rests ∷ asks ∷ asks ∷ asks ∷ asks ∷ rests ∷ rests ∷ []
 

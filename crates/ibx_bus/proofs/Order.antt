@@ -8,6 +8,7 @@ use Rattle.ibx_bus.specs.Port.{PortState, answers, is_wait_over, new_port, port_
 use Rattle.ibx_bus.specs.PortTimes.{Call, AnswersInOrder, answers_shown, granted_answers, in_front_if, port_after}
 use Rattle.ibx_bus.specs.PortTimes.{unanswered}
 
+-- an answer that is there
 abbrev answer_with : Bool → ℕ → Rsp
 answer_with err word = record { valid = true; err = err; word = word }
 

@@ -10,6 +10,7 @@ use Rattle.ibx_bus.specs.PortTimes.{answer_time, grant_time, waits_of}
 
 -- ---- the place in the list of waits
 
+-- the place of transaction n's waits, around the list's end
 unfoldable pub place_of : List Wait → ℕ → ℕ
 place_of [] n = 0
 place_of (w ∷ ws) n = n % length (w ∷ ws)
@@ -135,6 +136,7 @@ pub record Grants (ws : List Wait) (m x : ℕ) (err : Bool) (word c : ℕ) (p : 
   pub now : grant_time ws m x ≡ c
   pub then : Granted ws m x err word (c + 1) (moved true p err word)
 
+-- the same where it isn't granted in this cycle
 pub record Waits (ws : List Wait) (m x : ℕ) (err : Bool) (word c : ℕ) (p : PortState) : Type 0 where
   pub grant : grants true p ≡ false
   pub then : Waiting ws m x (c + 1) (moved true p err word)

@@ -59,6 +59,7 @@ all_answers {ws} (resting n i) ts = answer_times ws n ts
 all_answers {ws} (held m x w) ts = answer_time ws m x ∷ answer_times ws (suc m) ts
 all_answers {ws} (pending m x err word g) ts = answer_time ws m x ∷ answer_times ws (suc m) ts
 
+-- the grants and answers that are seen from c on are those that are due below the limit
 record Meets (ws : List Wait) (limit c : ℕ) (p : PortState) (o : Phase ws c p) (seen : List Seen) : Type 0 where
   grants : granted_in c seen ≡ below limit (all_grants o (issues c (is_held o) seen))
   answers : answered_in c seen ≡ below limit (all_answers o (issues c (is_held o) seen))
@@ -100,6 +101,7 @@ record FreeMeets (ws : List Wait) (limit n c : ℕ) (request grant : Bool) (seen
   answers : answered_in (c + 1) seen ≡ below limit
       (answer_times ws n (in_front_if (request && true) c (issues (c + 1) (request && not grant) seen)))
 
+-- where the calls stay polite, this one and those after it meet the times
 abbrev IfPolite : List Wait → ℕ → ℕ → ℕ → List Call → PortState → Bool → Bool → Type 0
 IfPolite ws limit n c cs next request grant =
     IsPolite (request && not grant) (grant || false) (trace cs next) → FreeMeets ws limit n c request grant

@@ -27,6 +27,7 @@ unfolding apart_pair
 apart r [] = true
 apart r (s ∷ rs) = apart_pair r s && apart r rs
 
+-- no two rows of a list
 unfoldable pub all_apart : {A : Type 0} → List (Row A) → Bool
 unfolding apart
 all_apart [] = true

@@ -31,9 +31,11 @@ pair_of table p first second t =
     ap (λ (x : ℕ). x ∷ get_or table (2 * p + 1) 0 ∷ []) (eqb→eq _ _ (and_l _ _ t))
     ∙ ap (λ (x : ℕ). first ∷ x ∷ []) (eqb→eq _ _ (and_r (eqb (get_or table (2 * p) 0) first) _ t))
 
+-- the entry of p has the two decimal digits of p
 abbrev decimal_test : ℕ → Bool
 decimal_test p = is_pair DECIMAL_PAIRS p (digit_glyph false (p / 10)) (digit_glyph false (p % 10))
 
+-- the entry of p has the two hexadecimal digits of p
 abbrev hex_test : ℕ → Bool
 hex_test p = is_pair HEX_PAIRS p (digit_glyph false (p / 16 % 16)) (digit_glyph false (p % 16))
 

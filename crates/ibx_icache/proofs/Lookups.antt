@@ -15,6 +15,7 @@ use Rattle.ibx_icache.specs.Rules.{tag_in, turns, word_in_way}
 abbrev IsFlippedTag : ℕ → Type 0
 IsFlippedTag tag = syndrome_of 22 6 tag ≢ 0
 
+-- a data word with a flipped bit
 abbrev IsFlipped : ℕ → Type 0
 IsFlipped word = syndrome_of 32 7 word ≢ 0
 

@@ -212,6 +212,7 @@ slot_set addr false = omega arith
 abbrev ways_at : ℕ → ℕ
 ways_at rest = if rest == 0 then 1 else 2
 
+-- the same by the way: 1 for the first, 2 for the second
 abbrev ways_in : Bool → ℕ
 ways_in way = if way then 2 else 1
 
@@ -286,6 +287,7 @@ internal_by false false = refl
 abbrev is_minor : WordPort → WordIn → Bool
 is_minor w i = is_look (doing_of w.c_state) && has_bad i.look w.c_addr
 
+-- the second cause: a flipped word in an answer of the bus
 abbrev is_bus : WordIn → Bool
 is_bus i = i.rsp.valid && is_bad_word i.rsp.word
 

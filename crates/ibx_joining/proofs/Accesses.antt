@@ -61,10 +61,6 @@ some_portion false false c = refl
 some_portion false true true = refl
 some_portion false true false = refl
 
--- a first portion that no memory answers is the last one
-first_bad : (b c : Bool) → portions_by false true b c ≡ OneBad
-first_bad b c = refl
-
 -- an access that reaches its second portion has two, and memory answers the first
 second_by : (a b c : Bool) → reaches (portions_by false a b c) true ≡ true
     → portions_by false a b c ≡ portions_by false false true c

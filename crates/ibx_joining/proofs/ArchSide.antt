@@ -26,11 +26,6 @@ use Rattle.ibx_arch.specs.declared.fetched.Fetched.TheVariants.{Unsound, Instruc
 
 -- ---- what the stage sees is the item
 
--- what only a real item has
-abbrev pub real_or : {A : Type 0} → Bool → Option A → Option A
-real_or true x = x
-real_or false x = None
-
 -- what the stage sees, by the row, its operands, whether it is real and whether timing is fixed
 abbrev pub eyes_at : Option Insn → ℕ → ℕ → Bool → Bool → IdState → Csrs → ℕ → MulKind → Eyes
 eyes_at row a b real fixed id csrs lines mul =

@@ -46,6 +46,7 @@ use Rattle.ibx_memory.specs.Coded.{HoldsMemory}
 abbrev pub buffer_of : Prefetch → WordPort → PortState → List ℕ → List ℕ → Prefetch
 buffer_of f w p tags lines = receives (ans_of w p tags lines) f
 
+-- the buffer after the request
 abbrev pub fetch_of : Prefetch → WordPort → PortState → List ℕ → List ℕ → Prefetch
 fetch_of f w p tags lines = requested (request_of (buffer_of f w p tags lines)) (buffer_of f w p tags lines)
 
@@ -54,19 +55,23 @@ fetch_of f w p tags lines = requested (request_of (buffer_of f w p tags lines)) 
 abbrev pub seen_of : Bool → Bool → Prefetch → WordPort → PortState → List ℕ → List ℕ → WordIn
 seen_of enable fence f w p tags lines = seen_by (request_of (buffer_of f w p tags lines)) enable fence w p tags lines
 
+-- the word port after the answer and the request
 abbrev pub issued_of : Bool → Bool → Prefetch → WordPort → PortState → List ℕ → List ℕ → WordPort
 issued_of enable fence f w p tags lines =
     issued enable fence w.c_walk (request_of (buffer_of f w p tags lines))
     (port_answered w (seen_of enable fence f w p tags lines))
 
+-- the word port after the grant
 abbrev pub words_of : Bool → Bool → Prefetch → WordPort → PortState → List ℕ → List ℕ → WordPort
 words_of enable fence f w p tags lines =
     granted_port (grants (wires_in (issued_of enable fence f w p tags lines)).valid p) fence w.c_walk
     (issued_of enable fence f w p tags lines)
 
+-- the word port's port of the bus after the cycle
 abbrev pub iport_of : Bool → Bool → Prefetch → WordPort → PortState → List ℕ → List ℕ → MemoryState → PortState
 iport_of enable fence f w p tags lines m = port_next p m (wires_in (issued_of enable fence f w p tags lines))
 
+-- what is written to the cache
 abbrev pub filling_in : Bool → Bool → Prefetch → WordPort → PortState → List ℕ → List ℕ → Filling
 filling_in enable fence f w p tags lines = filling_of w (seen_of enable fence f w p tags lines)
 
@@ -133,6 +138,7 @@ after s st g e n =
 abbrev pub ls_in : System → Sight → Bool → Lsu
 ls_in st g granted = ls_by g.active g.access st.main.ls (answer_wires st.dport) granted
 
+-- the load-store unit after the grant that its port gives
 abbrev pub ls_after : System → Sight → Lsu
 ls_after st g = ls_in st g (grants g.ls.req.valid st.dport)
 
@@ -140,6 +146,7 @@ ls_after st g = ls_in st g (grants g.ls.req.valid st.dport)
 abbrev pub dport_after : System → Sight → PortState
 dport_after st g = port_next st.dport st.mem g.ls.req
 
+-- memory after the cycle, which only a store that is granted changes
 abbrev pub mem_after : System → Sight → MemoryState
 mem_after st g = memory_after (grants g.ls.req.valid st.dport) st.mem g.ls.req
 

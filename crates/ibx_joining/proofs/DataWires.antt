@@ -167,11 +167,6 @@ none_taken : (s : Setup) (t : ℕ) (h : Story) → access_at s t h ≡ None → 
 unfolding taken
 none_taken s t h e = ap (λ a. sent_with s.plan.dwaits h.times.made (t + 1) (item_at s t h).portions a h.sent) e
 
--- an access that ends in an error reaches its bad portion
-fails_reach : (b : Bool) → reaches (fails b) b ≡ true
-fails_reach false = refl
-fails_reach true = refl
-
 -- in the cycle of an answer that is an error no request is on the wires
 failed_wires : (s : Setup) (t : ℕ) (h : Story) (c : ℕ) (b : Bool) (a : Option Access) → access_at s t h ≡ a
     → (item_at s t h).portions ≡ fails b → answer_at s t h b ≡ c → AreGranted h.sent c

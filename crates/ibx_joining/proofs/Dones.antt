@@ -53,6 +53,7 @@ use Rattle.ibx_memory.specs.Coded.{HoldsMemory}
 abbrev pub sight_in : Setup → System → Sight
 sight_in s st = sight_of st.main (in_of s st)
 
+-- what the turn does in that cycle
 abbrev pub effect_in : Setup → System → Effect
 effect_in s st = effect_by (sight_in s st).turn st.main (sight_in s st) (in_of s st)
 

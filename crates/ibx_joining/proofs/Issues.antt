@@ -203,11 +203,6 @@ unfolding request_of
 request_room f e n =
     ap₂ (λ b r. if not b && r then Some (next_addr f) else None) e (ap (λ y. f.f_fresh || y) n ∙ or_true f.f_fresh)
 
--- no word was requested yet
-zero_of : (q : ℕ) → is_zero q ≡ true → q ≡ 0
-zero_of zero e = refl
-zero_of (suc q) e = let no_ : false ≡ true = e in cc
-
 -- the address of the next word, by whether it is the first of the stream
 addr_by : (x : Stream) (half q : ℕ) (f : Prefetch) (b : Bool) → half < 2 → f.head_pc ≡ pc_in x half
     → f.f_addr ≡ last_of x q → f.f_fresh ≡ b → b ≡ is_zero q → (q ≡ 0 → length x.enters ≡ 0)

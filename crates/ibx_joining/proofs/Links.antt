@@ -33,6 +33,7 @@ line_base a = 8 * line_of a
 abbrev pub entry0 : Setup → List Write → Past → ℕ → ℕ → ℕ
 entry0 s log y t a = entry_in s log (first_grant (settings_of s) y t) (line_base a)
 
+-- the second of them
 abbrev pub entry1 : Setup → List Write → Past → ℕ → ℕ → ℕ
 entry1 s log y t a = entry_in s log (second_grant (settings_of s) y t) (line_base a + 4)
 

@@ -47,10 +47,6 @@ use Rattle.ibx_csr.specs.declared.name.Csr.TheVariants.{Mtvec}
 
 -- ---- the words of the image
 
--- a word of the image as its codeword
-abbrev word_at_reset : Setup → ℕ → ℕ
-word_at_reset s a = encode_of 32 7 (image_word s.image a)
-
 -- as many words as there are, each a codeword of four bytes of the image
 words_count : (image : Placed) (a n : ℕ) → length (image_words image a n) ≡ n
 unfolding image_words

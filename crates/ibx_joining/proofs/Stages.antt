@@ -67,6 +67,7 @@ abbrev pub view_phase : Option View → ℕ
 view_phase None = 0
 view_phase (Some v) = if v.kind == 1 then portion_phase v.tval v.addr else 0
 
+-- the phase in which the item that is admitted at t traps, 0 where it doesn't
 unfoldable pub trap_phase : Setup → ℕ → Story → ℕ
 trap_phase s t h = view_phase (view_by s h (choice_at s t h))
 
@@ -163,9 +164,11 @@ portion_word h w second = if w.store then 0 else read_bytes h.state.memory (port
 abbrev pub number_at : Story → Bool → ℕ
 number_at h second = portion_number h.times.made second
 
+-- the cycle in which the portion's transaction is issued
 abbrev pub issue_at : Setup → ℕ → Story → Bool → ℕ
 issue_at s t h second = portion_issue s.plan.dwaits h.times.made (t + 1) second
 
+-- the cycle in which it is answered
 abbrev pub answer_at : Setup → ℕ → Story → Bool → ℕ
 answer_at s t h second = portion_answer s.plan.dwaits h.times.made (t + 1) second
 

@@ -116,6 +116,7 @@ same_lists [] [] = true
 same_lists (a ∷ as_) (b ∷ bs) = a == b && same_lists as_ bs
 same_lists as_ bs = false
 
+-- all registers are equal
 abbrev same_values : CsrValues → CsrValues → Bool
 same_values a b =
     same_lists (a.mstatus ∷ a.mie ∷ a.mtvec ∷ a.mscratch ∷ a.mepc ∷ a.mcause ∷ a.mtval ∷ a.cpuctrl ∷ a.mcountinhibit
@@ -124,6 +125,7 @@ same_values a b =
     ∷ b.minstret ∷ b.pmpcfg)
     && same_lists a.pmpaddr b.pmpaddr && (if a.machine then b.machine else not b.machine)
 
+-- two bits are equal
 abbrev same : Bool → Bool → Bool
 same true b = b
 same false b = not b
@@ -136,20 +138,25 @@ counts q m false drop count = not drop && count + m == q
 counts q m true false count = count + m + 1 == q
 counts q m true true count = q == 0 && (count == 0 && m == 0)
 
+-- place i of the buffer has its word where it counts, and else 0
 abbrev holds_word : Setup → List Write → Stream → ℕ → ℕ → ℕ → ℕ → Bool
 holds_word s log x b i count buf = if nat_lt i count then buf == word_entry s log x (b + i) else buf == 0
 
+-- the port is at rest, and its next transaction is number n
 abbrev is_idle : List Wait → ℕ → PortState → Bool
 is_idle ws n p = not p.busy && (p.waited == 0 && p.place == place_of ws n)
 
+-- a request that was issued at x waits for its grant
 abbrev is_waiting : List Wait → ℕ → ℕ → ℕ → PortState → Bool
 is_waiting ws m x c p = not p.busy && (p.waited + x == c && (p.place == place_of ws m && nat_le c (grant_time ws m x)))
 
+-- a request that was issued at x is granted and awaits its answer
 abbrev is_granted : List Wait → ℕ → ℕ → Bool → ℕ → ℕ → PortState → Bool
 is_granted ws m x err word c p =
     p.busy && (p.waited == 0 && (p.place == place_of ws (suc m)
     && (p.left + c == answer_time ws m x && (nat_lt (grant_time ws m x) c && (same p.err err && p.word == word)))))
 
+-- the same of a read of the word at a, as memory held it at g
 abbrev is_read : Setup → List Write → ℕ → ℕ → ℕ → ℕ → ℕ → PortState → Bool
 is_read s log m x g a c p = is_granted s.plan.iwaits m x (is_unmapped s a) (encode_of 32 7 (word_in s log g a)) c p
 
@@ -158,19 +165,23 @@ abbrev granted_test : List Transaction → ℕ → Bool
 granted_test [] c = true
 granted_test (w ∷ ws) c = nat_lt w.grant c && granted_test ws c
 
+-- once the walk has passed slot n, its tag is what its last fill left
 abbrev tag_test : List ℕ → ℕ → List Fill → ℕ → List ℕ → ℕ → Bool
 tag_test fs c fills walk tags n =
     not (nat_lt n (2 * walk)) || slice_index tags n == encode_of 22 6 (tag_of fs c (last_fill fills n))
 
+-- the data words of slot n are those that the fill read
 abbrev word_test : Setup → List Write → List ℕ → ℕ → Option Fill → Bool
 word_test s log lines n None = true
 word_test s log lines n (Some x) =
     slice_index lines (2 * n) == encode_of 32 7 (word_in s log x.grant0 (8 * x.line)) && slice_index lines (2 * n + 1)
     == encode_of 32 7 (word_in s log x.grant1 (8 * x.line + 4))
 
+-- while the walk goes on no fill of slot n counts
 abbrev quiet_test : List ℕ → ℕ → List Fill → ℕ → ℕ → Bool
 quiet_test fs c fills walk n = not (nat_lt walk 256) || tag_of fs c (last_fill fills n) == 0
 
+-- all three of one slot
 abbrev cache_at : Setup → List Write → List ℕ → List Fill → ℕ → ℕ → List ℕ → List ℕ → ℕ → Bool
 cache_at s log fs fills c walk tags lines n =
     tag_test fs c fills walk tags n && (word_test s log lines n (last_fill fills n) && quiet_test fs c fills walk n)
@@ -186,11 +197,13 @@ abbrev old_test : List Fill → ℕ → Bool
 old_test [] c = true
 old_test (x ∷ fills) c = nat_lt x.time c && (nat_lt x.grant0 x.time && nat_lt x.grant1 x.time)
 
+-- both words of each line that was filled are mapped
 abbrev mapped_test : Setup → List Fill → Bool
 mapped_test s [] = true
 mapped_test s (x ∷ fills) =
     not (is_unmapped s (8 * x.line)) && (not (is_unmapped s (8 * x.line + 4)) && mapped_test s fills)
 
+-- each transaction that was sent was granted before the last answer
 abbrev sent_test : Past → Bool
 sent_test y = granted_test y.sent y.answer
 
@@ -205,6 +218,7 @@ abbrev missed_test : List ℕ → Past → ℕ → ℕ → ℕ → WordPort → 
 missed_test fs y t a e w = not (is_present fs y.fills (line_of a) t)
     && (same w.c_way (victim fs y.fills (line_of a) t) && same w.c_nostore (not (none_between fs t e)))
 
+-- what the word port does for the request of address a, issued at t, by its state
 unfoldable work_test : Doing → Setup → List Write → List Switch → List ℕ → Past → ℕ → ℕ → ℕ → WordPort → PortState
     → List ℕ → List ℕ → Bool
 work_test Rests s log ss fs y t a c w p tags lines = false
@@ -275,9 +289,11 @@ phase_test s limit t h c phase =
     if phase == 1 then nat_lt (t + 1) c && (trap_phase s t h == 0 || nat_lt c (done_at s limit t h)) else
     phase == trap_phase s t h && (nat_lt (t + 1) c && done_at s limit t h == c)
 
+-- two units of multiplication have equal fields
 abbrev same_md : MulDivUnit → MulDivUnit → Bool
 same_md a b = a.md_a == b.md_a && (a.md_b == b.md_b && a.md_acc == b.md_acc)
 
+-- the unit of multiplication has done the steps of the cycles since the admission
 abbrev work_row : Setup → ℕ → Story → ℕ → IdState → MulDivUnit → Option Insn → Bool
 work_row s t h c id md (Some (MulDiv op rd rs1 rs2)) =
     if c == t + 1 then same_md md md_idle else
@@ -289,14 +305,17 @@ abbrev is_plain : Portions → Bool
 is_plain NoPortion = true
 is_plain portions = false
 
+-- the first or the second portion is the one that fails
 abbrev is_failed : Portions → Bool → Bool
 is_failed OneBad false = true
 is_failed TwoBad true = true
 is_failed portions b = false
 
+-- two load-store units have equal fields
 abbrev same_ls : Lsu → Lsu → Bool
 same_ls a b = a.ls_state == b.ls_state && a.ls_first == b.ls_first
 
+-- one portion is due to be issued, waits for its grant, or is granted and awaits its answer
 abbrev portion_test : Setup → ℕ → Story → ℕ → Lsu → PortState → Access → Bool → Bool
 portion_test s t h c ls p w b =
     reaches (item_at s t h).portions b
@@ -308,14 +327,17 @@ portion_test s t h c ls p w b =
     && is_granted s.plan.dwaits (number_at h b) (issue_at s t h b) (is_unmapped s (portion_addr w.addr b))
     (encode_of 32 7 (portion_word h w b)) c p)))
 
+-- the same of either portion of an access
 abbrev portions_test : Setup → ℕ → Story → ℕ → Lsu → PortState → Option Access → Bool
 portions_test s t h c ls p None = false
 portions_test s t h c ls p (Some w) = portion_test s t h c ls p w false || portion_test s t h c ls p w true
 
+-- the portion was answered with an error in the cycle before
 abbrev fail_test : Setup → ℕ → Story → ℕ → Lsu → PortState → Bool → Bool
 fail_test s t h c ls p b = is_failed (item_at s t h).portions b
     && (same_ls ls ls_idle && (answer_at s t h b + 1 == c && is_idle s.plan.dwaits (suc (number_at h b)) p))
 
+-- the unit is idle for an item without portions, at a portion, or done with one that failed
 abbrev ls_test : Setup → ℕ → Story → ℕ → Lsu → PortState → Bool
 ls_test s t h c ls p =
     (is_plain (item_at s t h).portions && (same_ls ls ls_idle && is_idle s.plan.dwaits h.times.made p))
@@ -353,6 +375,7 @@ abbrev before_test : List Write → ℕ → Bool
 before_test [] c = true
 before_test (w ∷ ws) c = nat_lt w.time c && before_test ws c
 
+-- so many words of memory from word i on are codewords of the bytes
 unfoldable memory_from : ℕ → Memory → MemoryState → ℕ → ℕ → Bool
 memory_from zero memory m base i = true
 memory_from (suc k) memory m base i =
@@ -371,15 +394,6 @@ arch_facts s h y c x regs m =
     ++ check 60 (memory_from 3 (memory_at (image_memory s.image) y.writes c) m s.image.ram.base 64
     && memory_from 1 (memory_at (image_memory s.image) y.writes c) m s.image.ram.base 128)
 
-abbrev begun_test : Setup → Story → Option ℕ → Bool
-begun_test s h None = true
-begun_test s h (Some t) =
-    nat_lt (issue (settings_of s) (taken s t h).times.stream 0) (t + 1) || not (id_kind (kind_of s t h))
-  where
-    id_kind : Kind → Bool
-    id_kind AnInstruction = true
-    id_kind k = false
-
 -- ---- the turn
 
 -- tests of equality: of turns, of accesses and of causes
@@ -392,11 +406,13 @@ same_turn Irq Irq = true
 same_turn Dummy Dummy = true
 same_turn a b = false
 
+-- two accesses are equal, or neither is there
 abbrev same_access : Option Access → Option Access → Bool
 same_access None None = true
 same_access (Some a) (Some b) = a.addr == b.addr && (a.size == b.size && (same a.store b.store && a.value == b.value))
 same_access a b = false
 
+-- there is no cause of a trap
 abbrev no_cause : Option ℕ → Bool
 no_cause None = true
 no_cause (Some n) = false
@@ -409,12 +425,14 @@ portions_code OneBad = 2
 portions_code Two = 3
 portions_code TwoBad = 4
 
+-- the item has no portion and doesn't sleep, and has this cost
 abbrev plain_test : Setup → ℕ → Story → Eyes → ℕ → Bool
 plain_test s t h v cost =
     is_plain (item_at s t h).portions
     && ((item_at s t h).cost == cost && (nat_le cost 63
     && (not (item_at s t h).sleeps && (not (is_some_access v.access) && v.refused == 0))))
 
+-- the portions of the item are those of the access, whose parts are in range
 abbrev access_portions : Setup → ℕ → Story → Option Access → Bool
 access_portions s t h None = false
 access_portions s t h (Some w) =
@@ -423,6 +441,7 @@ access_portions s t h (Some w) =
     (is_unmapped s (portion_addr w.addr true)))
     && (nat_lt w.addr (2 ^ 32) && (nat_lt 0 w.size && (nat_le w.size 4 && nat_lt w.value (2 ^ 32))))
 
+-- a real item traps by its cause, is refused, accesses memory, sleeps, or works
 abbrev real_way : Setup → ℕ → Story → ℕ → IdState → Eyes → Bool
 real_way s t h c id v =
     (plain_test s t h v 1 && (not (no_cause v.trap) && trap_phase s t h == 4))
@@ -441,6 +460,7 @@ real_way s t h c id v =
     || (plain_test s t h v (item_at s t h).cost && (no_cause v.trap && (trap_phase s t h == 0
     && same_turn (worked v.row id (in_by v false 0)) (ends_at (item_at s t h).cost (item_at s t h).redirects id)))))))
 
+-- the same for each kind of item
 abbrev way_by : Kind → Setup → ℕ → Story → ℕ → IdState → Eyes → Bool
 way_by (AnInterrupt number) s t h c id v = plain_test s t h v 0
 way_by ADummy s t h c id v = plain_test s t h v v.cost
@@ -450,11 +470,13 @@ way_by AnInstruction s t h c id v = real_way s t h c id v
 abbrev is_free : List Wait → ℕ → PortState → Bool
 is_free ws n p = not (is_blocked p) && (p.waited == 0 && p.place == place_of ws n)
 
+-- two redirects are equal, or neither is there
 abbrev same_target : Option ℕ → Option ℕ → Bool
 same_target None None = true
 same_target (Some a) (Some b) = a == b
 same_target a b = false
 
+-- a load has gathered the words of its portions; a store has none to gather
 abbrev gathered_by : Story → Option Access → LsTurn → Bool
 gathered_by h None turn = true
 gathered_by h (Some w) turn = w.store
@@ -470,6 +492,7 @@ left_facts s z c e i regs =
     ++ check 84 (same_lists (put_reg e.write regs) (map (encode_of 32 7) z.state.regs))
     ++ check 85 (e.dummies.lfsr == z.times.dummies.lfsr && e.dummies.dcount == z.times.dummies.dcount)
 
+-- all that is said of an item's last cycle
 unfoldable end_facts : Setup → ℕ → ℕ → Story → System → Eyes → LsTurn → List ℕ
 end_facts s limit t h st v turn =
     check 71 (same_turn (turn_seen v st.main.id st.main.ls (answer_wires st.dport))
@@ -487,6 +510,7 @@ abbrev is_hold : Turn → Bool
 is_hold (Hold next) = true
 is_hold turn = false
 
+-- in its last cycle an item ends, and before it is held
 abbrev turn_by_done : Bool → Setup → ℕ → ℕ → Story → System → Eyes → LsTurn → List ℕ
 turn_by_done true s limit t h st v turn = end_facts s limit t h st v turn
 turn_by_done false s limit t h st v turn =
@@ -506,11 +530,13 @@ turn_facts s limit h (Some t) st v =
 abbrev ask_test : List Wait → ℕ → ℕ → ℕ → PortState → Bool
 ask_test ws n x c p = (x == c && is_free ws n p) || is_waiting ws n x c p
 
+-- what `cache_test` says, in the middle of a cycle
 abbrev cache_mid : Setup → List Write → List ℕ → List Fill → ℕ → WordPort → List ℕ → List ℕ → Bool
 cache_mid s log fs fills c w tags lines =
     cache_from 14 s log fs fills c w.c_walk tags lines 32
     && (same w.c_alt (other_way fills) && (old_test fills (c + 1) && mapped_test s fills))
 
+-- what the word port does in the middle of a cycle, by its state
 unfoldable wired_test : Doing → Setup → List Write → List Switch → List ℕ → Past → ℕ → ℕ → ℕ → WordPort → PortState
     → List ℕ → List ℕ → Bool
 wired_test Rests s log ss fs y t a c w p tags lines = false
@@ -547,6 +573,7 @@ wired_test Answers s log ss fs y t a c w p tags lines =
     && (is_free s.plan.iwaits (suc (suc (made y))) p
     && cache_mid s log fs (filled (settings_of s) fs y t a) c w tags lines)))))
 
+-- the same, with a request from before the redirect passed over
 abbrev mid_test : Setup → List Write → Stream → ℕ → ℕ → Bool → WordPort → PortState → List ℕ → List ℕ → Bool
 mid_test s log x q c false w p tags lines =
     w.c_state == 0 && (is_free s.plan.iwaits (made (past (settings_of s) x q)) p
@@ -567,15 +594,18 @@ fetch_at s log x half q f =
     && (holds_word s log x (length x.enters) 1 f.buf_count f.buf1
     && holds_word s log x (length x.enters) 2 f.buf_count f.buf2)))))
 
+-- the walk's place in the middle of a cycle, from the last FENCE.I before that of this cycle
 abbrev walk_mid : List ℕ → ℕ → Bool → ℕ → Bool
 walk_mid fs c false n = n == min (c - starts fs) 256
 walk_mid [] c true n = false
 walk_mid (f ∷ fs) c true n = f == c && n == min (c - starts fs) 256
 
+-- while the walk goes on, the set that it is at has been emptied
 abbrev clear_test : ℕ → List ℕ → Bool
 clear_test n tags = not (nat_lt n 256)
     || (slice_index tags (2 * n) == encode_of 22 6 0 && slice_index tags (2 * n + 1) == encode_of 22 6 0)
 
+-- two requests have equal wires
 abbrev same_wires : Req → Req → Bool
 same_wires a b =
     same a.valid b.valid && (same a.write b.write && (a.be == b.be && (a.addr == b.addr && a.word == b.word)))
@@ -595,11 +625,13 @@ issue_facts s log x half c f w p tags lines q =
     ++ check 108 (shows_test s log x (length x.enters) (pc_in x half) c (head_of f).first)
     ++ check 109 (shows_test s log x (length x.enters + half) ((pc_in x half + 2) % 2 ^ 32) c (head_of f).second)
 
+-- after the answer
 unfoldable answer_facts : Setup → List Write → Stream → ℕ → ℕ → Prefetch → WordPort → PortState → List ℕ → List ℕ → ℕ
     → List ℕ
 answer_facts s log x half c f w p tags lines q =
     check 103 (fetch_at s log x half q f) ++ check 104 (mid_test s log x q c f.f_busy w p tags lines)
 
+-- after the done, and then the other two
 unfoldable mid_facts : Setup → Story → System → Effect → Prefetch → WordIn → Prefetch → ℕ → List ℕ
 mid_facts s y st e f0 i f1 q =
     check 100 (fetch_at s y.writes y.times.stream y.times.half q f0)
@@ -622,11 +654,13 @@ mid_from s y st e f0 =
     (buffer_of f0 st.main.words st.iport st.tags st.lines)
     (words (settings_of s) y.times.stream st.cycle (length y.times.stream.enters + 3))
 
+-- by whether the item ends in this cycle
 abbrev middle_if : Bool → Setup → ℕ → ℕ → Story → System → List ℕ
 middle_if true s limit t h st =
     mid_from s (continued s limit t h) st (effect_in s st) (turned (effect_in s st).redirect st.main.fetch)
 middle_if false s limit t h st = mid_from s (taken s t h) st (effect_in s st) st.main.fetch
 
+-- by whether there is an item
 unfoldable middle_facts : Setup → ℕ → Story → Option ℕ → System → List ℕ
 middle_facts s limit h None st = mid_from s h st (effect_in s st) st.main.fetch
 middle_facts s limit h (Some t) st = middle_if (done_at s limit t h == st.cycle) s limit t h st
@@ -647,10 +681,12 @@ facts_of s limit h y o q st =
     ++ arch_facts s h y st.cycle st.main st.regs st.mem
     ++ turn_facts s limit h o st (eyes s st) ++ middle_facts s limit h o st
 
+-- the same with the count of words that are requested
 unfoldable facts_by : Setup → ℕ → Story → Story → Option ℕ → System → List ℕ
 facts_by s limit h y o st =
     facts_of s limit h y o (words (settings_of s) y.times.stream st.cycle (length y.times.stream.enters + 3)) st
 
+-- the same with the story of the item in the stage
 abbrev facts : Setup → ℕ → Story → Option ℕ → System → List ℕ
 facts s limit h o st = facts_by s limit h (with_item s h o) o st
 
@@ -659,6 +695,7 @@ abbrev next_if : Setup → ℕ → ℕ → Story → Bool → Story
 next_if s limit t h true = continued s limit t h
 next_if s limit t h false = h
 
+-- the same by whether there is an item
 abbrev next_story : Setup → ℕ → Story → ℕ → Option ℕ → Story
 next_story s limit h c None = h
 next_story s limit h c (Some t) = next_if s limit t h (done_at s limit t h == c)
@@ -734,6 +771,7 @@ unfolding wires_at bus_line story_after ctl_after dummy_word dummy_cost brought_
     left_facts middle_facts mid_facts answer_facts issue_facts wired_test trap_phase fetched place_of
 mixed_is = refl
 
+-- the second run: the single-cycle multiplier, and an interrupt line from cycle 100 on
 abbrev errors : Setup
 errors = record {
   image = record {
@@ -827,6 +865,7 @@ unfolding wires_at bus_line story_after ctl_after dummy_word dummy_cost brought_
     left_facts middle_facts mid_facts answer_facts issue_facts wired_test trap_phase fetched place_of
 errors_is = refl
 
+-- the third run: lines in both ways of the cache, and a FENCE.I
 abbrev ways : Setup
 ways = record {
   image = record {

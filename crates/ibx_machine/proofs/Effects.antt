@@ -17,6 +17,7 @@ use Rattle.ibx_machine.specs.Core.{Core, In, Sight, Effect, retires, ticked, sta
 use Rattle.ibx_machine.specs.Core.{following as next_of}
 use Rattle.ibx_machine.specs.System.{happens_at}
 
+-- the registers after a write, if there is one
 abbrev pub with_write : Option (ℕ × ℕ) → List ℕ → List ℕ
 with_write None regs = regs
 with_write (Some (n, value)) regs = slice_set regs n value
@@ -28,6 +29,7 @@ pub record Agrees (c : ℕ) (regs : List ℕ) (e : Effect) (p : Stepped) : Type 
   pub next_pc : e.next_pc ≡ p.next.pc
   pub left : with_write e.write regs ≡ p.next.regs
 
+-- the operands that the core's event shows, none under fixed timing
 abbrev pub ops_in : Core → Sight → Option (ℕ × ℕ)
 ops_in x g = if is_fixed x.csrs then None else Some (g.a, g.b)
 

@@ -1,13 +1,11 @@
 -- Rows of the table of cycles, as the machine runs them.
-use Rattle.std.specs.Prelude.{◌≡◌, ℕ, ◌/◌, ◌%◌, List, [], ◌∷◌, true, false, map, refl, Some, None}
-use Rattle.ibx_elf.specs.Image.{Placed, image_byte}
+use Rattle.std.specs.Prelude.{◌≡◌, ℕ, List, [], ◌∷◌, true, false, refl, Some, None}
+use Rattle.ibx_elf.specs.Image.{image_byte}
 use Rattle.ibx_isa.specs.declared.insn.MulKind.TheVariants.{Fast}
-use Rattle.ibx_isa.specs.declared.event.Event.{Event}
 use Rattle.ibx_isa.specs.declared.event.Event.TheVariants.{Retire, Trap, Irq}
-use Rattle.ibx_plan.specs.Plan.{PlanValue}
 use Rattle.ibx_plan.specs.declared.site.Wait.{Wait}
 use Rattle.ibx_time.specs.Settings.{Setup}
-use Rattle.ibx_time.specs.History.{story, brought_parcels, words_there, admission, item_at, access_at, taken, continued}
+use Rattle.ibx_time.specs.History.{brought_parcels, words_there, admission, item_at, access_at, taken, continued}
 use Rattle.ibx_time.specs.History.{event_at, told, up_to_halt}
 use Rattle.ibx_time.specs.Timeline.{words_for, admission_for, item_for, times_for, cycles_from}
 use Rattle.ibx_time.specs.BusLines.{wires_at, bus_line}
@@ -62,36 +60,11 @@ use Rattle.ibx_bus.specs.Memory as bus_Memory
 use Rattle.ibx_bus.specs.Port as bus_Port
 use Rattle.ibx_secded.specs.Code as secded_Code
 
-abbrev bytes_of : List ℕ → List ℕ
-bytes_of [] = []
-bytes_of (w ∷ ws) = w % 256 ∷ w / 256 % 256 ∷ w / 65536 % 256 ∷ w / 16777216 % 256 ∷ bytes_of ws
-
--- the image of these words at 0x00100080, which is the entry
-abbrev program : List ℕ → Placed
-program ws = record {
-  ram = record { base = 0x100000; size = 0x100000 };
-  entry = 0x100080;
-  segments = record
-      { addr = 0x100080; bytes = bytes_of ws } ∷ [];
-}
-
-abbrev no_plan : PlanValue
-no_plan = record { iwaits = []; dwaits = []; changes = []; flip = None }
-
+-- the waits of a transaction before its grant and before its answer
 abbrev wait : ℕ → ℕ → Wait
 wait g w = record { grant = g; answer = w }
 
-abbrev runs : List ℕ → PlanValue → Setup
-runs ws p = record { image = program ws; mul = Fast; plan = p }
-
-abbrev cycle_of : Event → ℕ
-cycle_of (Retire cycle pc word rd value mem ctl ops) = cycle
-cycle_of (Trap cycle pc word cause tval addr) = cycle
-cycle_of (Irq cycle pc cause) = cycle
-
-abbrev cycles_of : Setup → ℕ → List ℕ
-cycles_of s n = map cycle_of (story s n)
-
+-- a store to the host's page after two instructions
 abbrev row1_setup : Setup
 row1_setup = record {
   image = record {
@@ -138,6 +111,7 @@ unfolding wires_at bus_line story_after ctl_after dummy_word dummy_cost brought_
     secded_Code.column secded_Code.checks secded_Code.syndrome_of secded_Code.encode_of secded_Code.rewrite_of
 row1 = refl
 
+-- the same, with each fetch granted a cycle late
 abbrev row2_setup : Setup
 row2_setup = record {
   image = record {
@@ -184,6 +158,7 @@ unfolding wires_at bus_line story_after ctl_after dummy_word dummy_cost brought_
     secded_Code.column secded_Code.checks secded_Code.syndrome_of secded_Code.encode_of secded_Code.rewrite_of
 row2 = refl
 
+-- fixed timing is turned on before a branch
 abbrev row4_setup : Setup
 row4_setup = record {
   image = record {
@@ -235,6 +210,7 @@ unfolding wires_at bus_line story_after ctl_after dummy_word dummy_cost brought_
     secded_Code.column secded_Code.checks secded_Code.syndrome_of secded_Code.encode_of secded_Code.rewrite_of
 row4 = refl
 
+-- a division of two registers
 abbrev row5_setup : Setup
 row5_setup = record {
   image = record {
@@ -291,6 +267,7 @@ unfolding wires_at bus_line story_after ctl_after dummy_word dummy_cost brought_
     secded_Code.column secded_Code.checks secded_Code.syndrome_of secded_Code.encode_of secded_Code.rewrite_of
 row5 = refl
 
+-- a load that crosses words, with waits on the data port
 abbrev row7_setup : Setup
 row7_setup = record {
   image = record {
@@ -349,6 +326,7 @@ unfolding wires_at bus_line story_after ctl_after dummy_word dummy_cost brought_
     secded_Code.column secded_Code.checks secded_Code.syndrome_of secded_Code.encode_of secded_Code.rewrite_of
 row7 = refl
 
+-- an interrupt line rises as MIE is set
 abbrev row12b_setup : Setup
 row12b_setup = record {
   image = record {
@@ -405,9 +383,11 @@ unfolding wires_at bus_line story_after ctl_after dummy_word dummy_cost brought_
     secded_Code.column secded_Code.checks secded_Code.syndrome_of secded_Code.encode_of secded_Code.rewrite_of
 row12b = refl
 
+-- a program that turns dummies on
 abbrev row13_bytes : List ℕ
 row13_bytes = 115 ∷ 96 ∷ 2 ∷ 124 ∷ 55 ∷ 3 ∷ 2 ∷ 0 ∷ 147 ∷ 3 ∷ 16 ∷ 0 ∷ 35 ∷ 36 ∷ 115 ∷ 0 ∷ []
 
+-- the program with dummies
 abbrev row13_setup : Setup
 row13_setup = record {
   image = record {

@@ -42,6 +42,7 @@ steps_last s (suc c) x = steps_last s c (system_next s x)
 
 -- ---- the two cores before the step of cycle c
 
+-- the system is the machine's before cycle c, both cores agree, and all words are codewords
 pub record Along (s : Setup) (c : ℕ) (w : Whole State) : Type 0 where
   pub system : machine_system w ≡ system_at s c
   pub settings : w.place.settings ≡ settings_in s

@@ -80,6 +80,7 @@ buffer busy fresh drop addr w0 w1 w2 count pc =
       head_pc = pc;
     }
 
+-- an answer to the buffer by its fields
 abbrev pub answer : Bool → Bool → ℕ → WordAns
 answer valid err word = record { valid = valid; err = err; word = word }
 

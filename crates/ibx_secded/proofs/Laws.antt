@@ -18,6 +18,7 @@ use Rattle.ibx_secded.proofs.Words.{xor_cancel, xor_swap, xor_zero, xor_same, ca
 
 -- ---- the columns fit
 
+-- each number of a list is below n
 unfoldable all_below : ℕ → List ℕ → Bool
 all_below n [] = true
 all_below n (x ∷ xs) = nat_lt x n && all_below n xs
@@ -161,15 +162,18 @@ checks-flip h (suc i) v b lt =
 
 -- ---- the columns are apart, and none is a power of two
 
+-- a number isn't in a list
 unfoldable is_new : ℕ → List ℕ → Bool
 is_new n [] = true
 is_new n (x ∷ xs) = not (eqb n x) && is_new n xs
 
+-- no number is twice in a list
 unfoldable distinct : List ℕ → Bool
 unfolding is_new
 distinct [] = true
 distinct (x ∷ xs) = is_new x xs && distinct xs
 
+-- no power of two below 2^k is in a list
 unfoldable no_power : ℕ → List ℕ → Bool
 unfolding is_new
 no_power zero xs = true

@@ -94,6 +94,7 @@ AllAgree (x ∷ xs) = Agrees x × AllAgree xs
 abbrev pub rests : Req
 rests = record { valid = false; write = false; be = 0; addr = 0; word = 0 }
 
+-- a fetch of the word at this address
 abbrev pub fetches : ℕ → Req
 fetches addr = record { valid = true; write = false; be = 15; addr = addr; word = 0 }
 

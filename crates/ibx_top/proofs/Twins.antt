@@ -120,6 +120,7 @@ pair_one told first second options plan answer (bytes, (content, is)) =
 abbrev plain_codes : List ℕ
 plain_codes = 0 ∷ 3 ∷ 4 ∷ 5 ∷ 7 ∷ 9 ∷ []
 
+-- the statuses of `twin` with a plan
 abbrev planned_codes : List ℕ
 planned_codes = 0 ∷ 3 ∷ 4 ∷ 5 ∷ 6 ∷ 7 ∷ 9 ∷ []
 

@@ -209,6 +209,7 @@ dummy_fits s c h k =
 abbrev pub first_of_pair : Setup → Story → ℕ
 first_of_pair s h = brought s h (length h.times.stream.enters) h.state.pc
 
+-- the second halfword
 abbrev pub second_of_pair : Setup → Story → ℕ
 second_of_pair s h = brought s h (length h.times.stream.enters + h.times.half) ((h.state.pc + 2) % 2 ^ 32)
 
@@ -216,9 +217,11 @@ second_of_pair s h = brought s h (length h.times.stream.enters + h.times.half) (
 abbrev sound1 : Story → Bool
 sound1 h = is_sound h.state.csrs h.state.memory.ram h.state.pc
 
+-- the same of the second one
 abbrev sound2 : Story → Bool
 sound2 h = is_sound h.state.csrs h.state.memory.ram ((h.state.pc + 2) % 2 ^ 32)
 
+-- the instruction has both
 abbrev is_pair : Setup → Story → Bool
 is_pair s h = is_long (first_of_pair s h)
 
@@ -257,6 +260,7 @@ ready1 s h c = nat_le (answer (settings_of s) h.times.stream (length h.times.str
 abbrev ready2 : Setup → Story → ℕ → Bool
 ready2 s h c = nat_le (answer (settings_of s) h.times.stream (length h.times.stream.enters + h.times.half)) c
 
+-- each halfword that is needed has been answered
 abbrev both_there : Setup → Story → ℕ → Bool
 both_there s h c = comes_by (ready1 s h c) (ready2 s h c) (sound1 h) (is_pair s h)
 

@@ -84,6 +84,7 @@ known_is s t h st ok ti i d pc = record {
 abbrev pub what : Setup → Story → Fetched
 what s h = fetch h.state (first_of_pair s h) (second_of_pair s h)
 
+-- its step in cycle c
 abbrev pub step_now : Setup → Story → ℕ → Stepped
 step_now s h c = after_fetch (at_cycle h.state c) c (lines_in (settings_of s) c) (what s h)
 

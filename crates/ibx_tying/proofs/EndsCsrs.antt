@@ -99,6 +99,7 @@ apart e = absurd (no e)
 abbrev left_values : Case → CsrValues
 left_values m = with_trap_regs (csr_tick (now m).csrs true None) (leave_of (trap_regs (now m).csrs))
 
+-- the same as fields of the core
 abbrev left_fields : Case → Csrs
 left_fields m = with_regs (ticked m.core) (leave_of (trap_regs (values m.core.csrs)))
 
@@ -292,6 +293,7 @@ csr_effect m op rd src addr source old next imm w r ew eo es =
 abbrev written_values : Case → ℕ → ℕ → CsrValues
 written_values m addr value = csr_write (csr_tick (now m).csrs true (Some addr)) addr value
 
+-- the same as fields of the core
 abbrev written_fields : Case → ℕ → ℕ → Csrs
 written_fields m addr value = write_of (tick_of m.core.csrs true (Some addr)) addr value
 

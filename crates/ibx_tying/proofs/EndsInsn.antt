@@ -139,6 +139,7 @@ abbrev pub tval_of : Core → ℕ → ℕ
 tval_of x cause = if cause == 1 then (if x.id.fault == 2 then (x.id.pc + 2) % 2 ^ 32 else x.id.pc) else if cause == 2
     then stage_word x.id else 0
 
+-- the step of a trap whose event has no address
 abbrev pub trap_step : Case → ℕ → Option (ℕ × ℕ) → ℕ → ℕ → Stepped
 trap_step m word ops cause tval = trapped m.h.state m.c word ops m.h.state.memory cause tval 0
 

@@ -201,6 +201,7 @@ portion_ends m word cause tval ops memory w k t ea ec f low ew phase em er eb = 
 abbrev pub load_addr : Case → ℕ → ℕ → ℕ
 load_addr m rs1 imm = (reg m.h.state rs1 + imm) % 2 ^ 32
 
+-- the access of a load
 abbrev pub load_access : Case → LoadOp → ℕ → ℕ → Access
 load_access m op rs1 imm = record { addr = load_addr m rs1 imm; size = size_of op; store = false; value = 0 }
 

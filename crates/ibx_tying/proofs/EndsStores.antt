@@ -225,6 +225,7 @@ module _ (s : Setup) (t : ℕ) (h : Story) (c addr size v : ℕ)
 abbrev pub store_addr : Case → ℕ → ℕ → ℕ
 store_addr m rs1 imm = (reg m.h.state rs1 + imm) % 2 ^ 32
 
+-- the access of a store
 abbrev pub store_access : Case → ℕ → ℕ → ℕ → ℕ → Access
 store_access m size rs1 rs2 imm =
     record { addr = store_addr m rs1 imm; size = size; store = true; value = reg m.h.state rs2 % 256 ^ size }

@@ -63,10 +63,6 @@ portion_some : (b : Bool) → portion_code b + 1 ≢ 0
 portion_some true e = absurd (omega (arith, e))
 portion_some false e = absurd (omega (arith, e))
 
--- what the stage sees as an access can't be none
-some_none : (w : Access) → Some w ≡ None → ⊥
-some_none w e = cc
-
 -- the row of an access
 record IsAccessRow (insn : Insn) : Type 0 where
   no_wfi : Some insn ≡ Some Wfi → ⊥

@@ -74,6 +74,7 @@ handed s op rd source addr next old = record {
   csrs = csr_write (csr_tick s.csrs true (Some addr)) addr (written op old source);
 }
 
+-- MRET, which goes on at mepc
 abbrev pub returned : State → Executed
 returned s = record {
   done = Retires (record { rd = 0; value = 0; mem = None; ctl = None; next_pc = s.csrs.mepc });

@@ -137,6 +137,7 @@ fixed_there s h c next_pc csrs regs t =
 abbrev some_if : Bool → Option (ℕ × ℕ) → Option (ℕ × ℕ)
 some_if b o = if b then o else None
 
+-- operands by whether they are hidden
 abbrev none_if : Bool → Option (ℕ × ℕ) → Option (ℕ × ℕ)
 none_if b o = if b then None else o
 

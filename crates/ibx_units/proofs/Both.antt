@@ -43,6 +43,7 @@ record Both (s : Setup) (r : Course) (c : ℕ) (y : Times) (f : Prefetch) (v : S
   count : ℕ
   words : WordsAt s r.writes y.stream y.half count c (enables_cache y.ctl) f v.words v.port v.tags v.lines
 
+-- the same of the units as they are before cycle c
 abbrev BothAt : Setup → Course → (ℕ → MemoryState) → ℕ → Type 0
 BothAt s r memory c = Both s r c (times_at s r.moves c) (buffer_at s r c) (side_at s r memory c)
 

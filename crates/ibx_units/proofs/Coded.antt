@@ -33,6 +33,7 @@ words_are m a (suc n) (suc i) h =
 abbrev bytes_at : Setup → Course → ℕ → Memory
 bytes_at s r c = memory_at (image_memory s.image) r.writes c
 
+-- the same as words with their check bits
 abbrev pub coded_at : Setup → Course → ℕ → MemoryState
 coded_at s r c = record {
   base = s.image.ram.base;

@@ -67,6 +67,7 @@ abbrev pub issued_with : Bool → Bool → Option ℕ → WordPort → PortState
 issued_with enable fence o w p tags lines =
     issued enable fence w.c_walk o (port_answered w (seen_by o enable fence w p tags lines))
 
+-- the word port after the grant
 abbrev pub words_with : Bool → Bool → Option ℕ → WordPort → PortState → List ℕ → List ℕ → WordPort
 words_with enable fence o w p tags lines =
     granted_port (grants (wires_in (issued_with enable fence o w p tags lines)).valid p) fence w.c_walk

@@ -3,6 +3,7 @@ use Rattle.std.proofs.Math.ListN.{drop_of_length-le}
 use Rattle.ibx_number.proofs.Digits.{none_read, next_digit, no_digit, digit_small, all_read, stays_small, small_fits}
 use Rattle.ibx_number.proofs.value_in.Goals as goal
 
+-- the value with one digit more stays below 2^40, so nothing overflows
 small : (c : goal.After-from) → c.loop-byte.value * c.args.base + c.in_ok-digit.digit < 2 ^ 40
 small c =
     let d = digit_small c.args.base (get_or c.args.digits.now c.loop-byte.byte-index 0) c.in_ok-digit.digit

@@ -15,6 +15,7 @@ use Rattle.ibx_asm.proofs.line.operands.Goals.{in-Some-value, then-in_range, els
 both : (a b c d : Bool) → a ≡ true → d ≡ b → b ≡ c → d ≡ (a && c)
 both a b c d e f g = rw e (f ∙ g)
 
+-- the same where the test before it fails
 neither : (a c d : Bool) → a ≡ false → d ≡ a → d ≡ (a && c)
 neither a c d e f = rw e (f ∙ e)
 

@@ -7,6 +7,7 @@ use Rattle.ibx_asm.specs.Operands.{definition_of}
 use Rattle.ibx_asm.proofs.Finding.{find_mapped}
 use Rattle.ibx_asm.proofs.labels.Labels.find.Goals as goal
 
+-- the copy of a borrowed label is the label as it is now
 copied_now : (o : Option (Bor Label)) → option_copied o ≡ option_map (λ label. label.now) o
 copied_now None = refl
 copied_now (Some label) = refl

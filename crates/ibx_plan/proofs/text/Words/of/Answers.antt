@@ -13,6 +13,7 @@ so_far : {S A B : Type 0} {steps : S → Option A → S → Type 0} {v : A → B
     → Yields steps s xs t → YieldsList steps v s all → map v xs ≡ take (length xs) all
 so_far xs t y e = YieldsList-so_far e xs t y
 
+-- the second one: at the end all has been taken
 ended : {S A B : Type 0} {steps : S → Option A → S → Type 0} {v : A → B} {s : S} {all : List B} (xs : List A) (t : S)
     → Yields steps s xs t → (r : Option A) (u : S) → r ≡ None → steps t r u → YieldsList steps v s all → map v xs ≡ all
 ended xs t y r u gone step e = (YieldsList-end e xs t y r u gone step).0
