@@ -1,8 +1,10 @@
-ghost use Rattle.std.specs.Prelude.{◌≡◌, ◌≤◌, ◌<◌, ℕ, List, Option, [], ◌∷◌, ◌++◌, length, vec_len, IfOk, IfSome, OnOk, OnErr, None, Some, IsSome, is_err};
+ghost use Rattle.std.specs.Prelude.{◌≡◌, ◌≤◌, ◌<◌, ℕ, List, Option, [], ◌∷◌, ◌++◌, length, vec_len, IfOk, IfSome};
+ghost use Rattle.std.specs.Prelude.{OnOk, OnErr, None, Some, IsSome, is_err};
 ghost use Rattle.std.specs.List.{slice_get, position, list_any};
 ghost use Rattle.ibx_base.specs.Counts.{HasCause, raised as raised_count};
 ghost use Rattle.ibx_base.specs.Files.{Begins, CountsMiss, ReadsFrom};
-ghost use Rattle.ibx_base.specs.MemFiles.{is_named, content_of, begun_at, next_fails, begin_fails, after_begin, count_read, after_read, no_files, with_entry, with_failure, counted, Finds};
+ghost use Rattle.ibx_base.specs.MemFiles.{is_named, content_of, begun_at, next_fails, begin_fails, after_begin};
+ghost use Rattle.ibx_base.specs.MemFiles.{count_read, after_read, no_files, with_entry, with_failure, counted, Finds};
 
 use crate::files::Files;
 use crate::status::{Failed, NoMemory};
@@ -196,7 +198,8 @@ impl Files for MemFiles {
         ensures kept { content_of self.new.entries ≡ content_of self.old.entries }
         ensures within { IfOk result (λ count. count ≤ length buf.old) }
         ensures bytes { IfOk result (λ count. ReadsFrom self.old.begun buf.old count self.new.begun buf.new) }
-        ensures nothing { IfOk result (λ count. IsSome (Some (content_of self.old.entries)) → self.old.begun ≡ None → count ≡ 0) }
+        ensures nothing { IfOk result (λ count. IsSome (Some (content_of self.old.entries)) → self.old.begun ≡ None
+            → count ≡ 0) }
         ensures left { OnErr result (self.new.begun ≡ self.old.begun) }
         ensures cause { HasCause self.old.faults self.new.faults result }
         ensures misses { self.new.misses ≡ self.old.misses }

@@ -26,7 +26,13 @@ impl Model for MemSink {
 
     ghost Value = { Store };
 
-    ghost view = { λ s. record { bytes = s.bytes.items; room = s.room; fails = s.fails.items; writes = s.writes; faults = s.faults } };
+    ghost view = { λ s. record {
+      bytes = s.bytes.items;
+      room = s.room;
+      fails = s.fails.items;
+      writes = s.writes;
+      faults = s.faults;
+    } };
 
     ghost invariant = { λ s. (vec_len s.bytes ≤ s.room) × (s.room ≤ vec_capacity s.bytes) };
 }
@@ -64,7 +70,8 @@ impl Sink for MemSink {
         ensures count { IfOk result (λ count. count ≡ count_taken self.old piece.now) }
         ensures within { IfOk result (λ count. count ≤ length piece.now) }
         ensures progress { IfOk result (λ count. 0 < length piece.now → 0 < count) }
-        ensures bytes { IfOk result (λ count. Some self.new.bytes ≡ with_more (Some self.old.bytes) (take count piece.now)) }
+        ensures bytes { IfOk result (λ count. Some self.new.bytes ≡ with_more (Some self.old.bytes)
+            (take count piece.now)) }
         ensures same { OnErr result (Some self.new.bytes ≡ Some self.old.bytes) }
         ensures cause { HasCause self.old.faults self.new.faults result }
     {

@@ -1,5 +1,6 @@
 -- The memory behind the two ports. Our own rule.
-use Rattle.std.specs.Prelude.{◌≡◌, ◌≢◌, ℕ, ◌+◌, ◌-◌, ◌*◌, ◌/◌, ◌%◌, ◌<◌, ◌≤◌, ◌^◌, ◌==◌, Bool, not, ◌&&◌, ◌||◌, nat_lt, nat_le, if◌then◌else◌, List, All, length, map, slice_index, slice_set, bit_xor}
+use Rattle.std.specs.Prelude.{◌≡◌, ◌≢◌, ℕ, ◌+◌, ◌-◌, ◌*◌, ◌/◌, ◌%◌, ◌<◌, ◌≤◌, ◌^◌, ◌==◌, Bool, not, ◌&&◌, ◌||◌, nat_lt}
+use Rattle.std.specs.Prelude.{nat_le, if◌then◌else◌, List, All, length, map, slice_index, slice_set, bit_xor}
 use Rattle.std.specs.Int.{bit_at}
 use Rattle.ibx_bits.specs.Bytes.{word_byte}
 use Rattle.ibx_bits.specs.Platform.{host_page, host_page_end, host_page_has}
@@ -45,13 +46,15 @@ lane_of place enables old new = word_byte (if bit_at enables place == 1 then new
 -- the enabled bytes of the new word and the other bytes of the old one
 unfoldable pub merged : ℕ → ℕ → ℕ → ℕ
 merged enables old new =
-    lane_of 0 enables old new + 256 * lane_of 1 enables old new + 65536 * lane_of 2 enables old new + 16777216 * lane_of 3 enables old new
+    lane_of 0 enables old new + 256 * lane_of 1 enables old new + 65536 * lane_of 2 enables old new
+    + 16777216 * lane_of 3 enables old new
 
--- what a store leaves of a word: with four enables the word of the wires as it came, and with fewer the merged bytes under
--- the syndrome that the word had
+-- what a store leaves of a word: with four enables the word of the wires as it came, and with fewer the merged bytes
+-- under the syndrome that the word had
 unfoldable pub stored_word : ℕ → ℕ → ℕ → ℕ
 unfolding merged
-stored_word enables old new = if enables == 15 then new else rewrite_of 32 7 old (merged enables (payload_of 32 old) (payload_of 32 new))
+stored_word enables old new =
+    if enables == 15 then new else rewrite_of 32 7 old (merged enables (payload_of 32 old) (payload_of 32 new))
 
 -- whether a transaction stores to RAM
 abbrev pub is_store : MemoryState → Req → Bool
@@ -69,11 +72,12 @@ memory_next m r =
 abbrev pub memory_after : Bool → MemoryState → Req → MemoryState
 memory_after granted m r = if granted then memory_next m r else m
 
--- What a store to RAM leaves of its word: with four enables the word of the wires, as it came, and with fewer the merged
--- bytes with what was wrong before, so that a flip stays told.
+-- What a store to RAM leaves of its word: with four enables the word of the wires, as it came, and with fewer the
+-- merged bytes with what was wrong before, so that a flip stays told.
 pub record StoresWord (old new : MemoryState) (r : Req) : Type 0 where
   pub whole : r.be ≡ 15 → word_at new r.addr ≡ r.word
-  pub bytes : r.be ≢ 15 → payload_of 32 (word_at new r.addr) ≡ merged r.be (payload_of 32 (word_at old r.addr)) (payload_of 32 r.word)
+  pub bytes : r.be ≢ 15 → payload_of 32 (word_at new r.addr)
+      ≡ merged r.be (payload_of 32 (word_at old r.addr)) (payload_of 32 r.word)
   pub syndrome : r.be ≢ 15 → syndrome_of 32 7 (word_at new r.addr) ≡ syndrome_of 32 7 (word_at old r.addr)
 
 -- whether its answer is an error: the word lies neither in RAM nor in the host page

@@ -1,14 +1,15 @@
 -- One port of the bus, a cycle at a time. Our own rule.
-use Rattle.std.specs.Prelude.{◌≡◌, ℕ, ◌+◌, ◌-◌, ◌<◌, ◌≤◌, ◌^◌, ◌==◌, Bool, true, false, not, ◌&&◌, nat_lt, if◌then◌else◌, List, length, get_or, bit_xor}
+use Rattle.std.specs.Prelude.{◌≡◌, ℕ, ◌+◌, ◌-◌, ◌<◌, ◌≤◌, ◌^◌, ◌==◌, Bool, true, false, not, ◌&&◌, nat_lt}
+use Rattle.std.specs.Prelude.{if◌then◌else◌, List, length, get_or, bit_xor}
 use Rattle.ibx_isa.specs.declared.bus.Req.{Req}
 use Rattle.ibx_isa.specs.declared.bus.Rsp.{Rsp}
 use Rattle.ibx_plan.specs.declared.site.Wait.{Wait}
 use Rattle.ibx_secded.specs.Code.{encode_of}
 use Rattle.ibx_bus.specs.Memory.{MemoryState, error_of, answered_word}
 
--- The list of waits and the place in it of the next transaction; the waited cycles of the request; whether a transaction
--- is granted and not answered before this cycle, and how many cycles after this one it answers; whether the last
--- transaction's answer is an error, and its word.
+-- The list of waits and the place in it of the next transaction; the waited cycles of the request; whether a
+-- transaction is granted and not answered before this cycle, and how many cycles after this one it answers; whether
+-- the last transaction's answer is an error, and its word.
 pub record PortState : Type 0 where
   pub waits : List Wait
   pub place : ℕ
@@ -28,7 +29,8 @@ next_place waits place = if nat_lt (place + 1) (length waits) then place + 1 els
 
 -- a port that has had no request
 abbrev pub new_port : List Wait → PortState
-new_port waits = record { waits = waits; place = 0; waited = 0; busy = false; left = 0; err = false; word = encode_of 32 7 0 }
+new_port waits =
+    record { waits = waits; place = 0; waited = 0; busy = false; left = 0; err = false; word = encode_of 32 7 0 }
 
 -- whether a transaction answers in this cycle
 abbrev pub answers : PortState → Bool
@@ -37,7 +39,8 @@ answers p = p.busy && p.left == 0
 -- the wires of the answer
 unfoldable pub answer_wires : PortState → Rsp
 answer_wires p =
-    if answers p then record { valid = true; err = p.err; word = p.word } else record { valid = false; err = false; word = 0 }
+    if answers p then record { valid = true; err = p.err; word = p.word }
+    else record { valid = false; err = false; word = 0 }
 
 -- whether a transaction is granted and unanswered after this cycle's answer
 abbrev pub is_blocked : PortState → Bool
@@ -51,8 +54,8 @@ is_wait_over p = p.waited == (wait_at p.waits p.place).grant
 abbrev pub grants : Bool → PortState → Bool
 grants request p = not (is_blocked p) && (request && is_wait_over p)
 
--- What a cycle leaves, by whether the port is blocked, whether there is a request and whether its wait is over, with the
--- error and the word of the answer if it is granted.
+-- What a cycle leaves, by whether the port is blocked, whether there is a request and whether its wait is over, with
+-- the error and the word of the answer if it is granted.
 unfoldable pub port_moves : Bool → Bool → Bool → PortState → Bool → ℕ → PortState
 port_moves true _ _ p err word = record p { left = p.left - 1 }
 port_moves false false _ p err word = record p { waited = 0; busy = false }

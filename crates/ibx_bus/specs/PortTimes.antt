@@ -1,5 +1,6 @@
 -- The times of a port over every list of calls. Our own rule.
-use Rattle.std.specs.Prelude.{◌≡◌, ℕ, suc, ◌+◌, ◌%◌, Bool, true, false, not, ◌&&◌, ◌||◌, nat_lt, List, [], ◌∷◌, ◌++◌, length}
+use Rattle.std.specs.Prelude.{◌≡◌, ℕ, suc, ◌+◌, ◌%◌, Bool, true, false, not, ◌&&◌, ◌||◌, nat_lt, List, [], ◌∷◌, ◌++◌}
+use Rattle.std.specs.Prelude.{length}
 use Rattle.ibx_isa.specs.declared.bus.Req.{Req}
 use Rattle.ibx_isa.specs.declared.bus.Rsp.{Rsp}
 use Rattle.ibx_plan.specs.declared.site.Wait.{Wait}
@@ -21,7 +22,8 @@ pub record Seen : Type 0 where
 unfoldable pub trace : List Call → PortState → List Seen
 trace [] p = []
 trace (c ∷ cs) p =
-    record { request = c.request.valid; grant = grants c.request.valid p; answer = answers p } ∷ trace cs (port_next p c.memory c.request)
+    record { request = c.request.valid; grant = grants c.request.valid p; answer = answers p }
+    ∷ trace cs (port_next p c.memory c.request)
 
 -- The cycles of the issues, grants and answers, from cycle c on. A request is an issue where none was held.
 abbrev pub in_front_if : {A : Type 0} → Bool → A → List A → List A
@@ -85,13 +87,15 @@ trace_of waits calls = trace calls (new_port waits)
 abbrev pub GrantsInTime : List Wait → List Call → Type 0
 GrantsInTime waits calls =
     IsPolite false false (trace_of waits calls) →
-    granted_in 0 (trace_of waits calls) ≡ below (length calls) (grant_times waits 0 (issues 0 false (trace_of waits calls)))
+    granted_in 0 (trace_of waits calls)
+    ≡ below (length calls) (grant_times waits 0 (issues 0 false (trace_of waits calls)))
 
 -- so are the answers
 abbrev pub AnswersInTime : List Wait → List Call → Type 0
 AnswersInTime waits calls =
     IsPolite false false (trace_of waits calls) →
-    answered_in 0 (trace_of waits calls) ≡ below (length calls) (answer_times waits 0 (issues 0 false (trace_of waits calls)))
+    answered_in 0 (trace_of waits calls)
+    ≡ below (length calls) (answer_times waits 0 (issues 0 false (trace_of waits calls)))
 
 -- ---- what the answers carry
 
@@ -99,14 +103,16 @@ AnswersInTime waits calls =
 unfoldable pub granted_answers : List Call → PortState → List Rsp
 granted_answers [] p = []
 granted_answers (c ∷ cs) p =
-    in_front_if (grants c.request.valid p) (record { valid = true; err = error_of c.memory c.request; word = answered_word c.memory c.request })
+    in_front_if (grants c.request.valid p)
+    (record { valid = true; err = error_of c.memory c.request; word = answered_word c.memory c.request })
     (granted_answers cs (port_next p c.memory c.request))
 
 -- the answers that are seen in these calls
 unfoldable pub answers_shown : List Call → PortState → List Rsp
 answers_shown [] p = []
 answers_shown (c ∷ cs) p =
-    in_front_if (answers p) (record { valid = true; err = p.err; word = p.word }) (answers_shown cs (port_next p c.memory c.request))
+    in_front_if (answers p) (record { valid = true; err = p.err; word = p.word })
+    (answers_shown cs (port_next p c.memory c.request))
 
 -- the port after these calls
 unfoldable pub port_after : List Call → PortState → PortState
@@ -120,4 +126,5 @@ unanswered p = in_front_if p.busy (record { valid = true; err = p.err; word = p.
 -- whatever the requests, each grant has one answer, in order, but for the last while it is open
 abbrev pub AnswersInOrder : List Wait → List Call → Type 0
 AnswersInOrder waits calls =
-    granted_answers calls (new_port waits) ≡ answers_shown calls (new_port waits) ++ unanswered (port_after calls (new_port waits))
+    granted_answers calls (new_port waits)
+    ≡ answers_shown calls (new_port waits) ++ unanswered (port_after calls (new_port waits))

@@ -1,7 +1,9 @@
-ghost use Rattle.std.specs.Prelude.{◌≡◌, ◌≢◌, ◌<◌, ◌≤◌, ◌^◌, ◌*◌, ◌+◌, ◌%◌, ℕ, IfOk, length, slice_index, bit_xor, true, false};
+ghost use Rattle.std.specs.Prelude.{◌≡◌, ◌≢◌, ◌<◌, ◌≤◌, ◌^◌, ◌*◌, ◌+◌, ◌%◌, ℕ, IfOk, length, slice_index, bit_xor};
+ghost use Rattle.std.specs.Prelude.{true, false};
 ghost use Rattle.ibx_bits.specs.Platform.{host_page_has};
 ghost use Rattle.ibx_secded.specs.Code.{encode_of};
-ghost use Rattle.ibx_bus.specs.Memory.{MissesHostPage, error_of, memory_has, memory_flip, memory_next, coded_memory, answered_word};
+ghost use Rattle.ibx_bus.specs.Memory.{MissesHostPage, error_of, memory_has, memory_flip, memory_next, coded_memory};
+ghost use Rattle.ibx_bus.specs.Memory.{answered_word};
 ghost use Rattle.ibx_isa.specs.Wires.{IsRequest};
 
 use crate::merge::store;

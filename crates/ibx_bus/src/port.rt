@@ -32,9 +32,25 @@ impl<'w> Model for Port<'w> {
 
     ghost Value = { PortState };
 
-    ghost view = { λ p. record { waits = p.waits.now; place = p.place; waited = p.waited; busy = p.busy; left = p.left; err = p.err; word = p.word } };
+    ghost view = { λ p. record {
+      waits = p.waits.now;
+      place = p.place;
+      waited = p.waited;
+      busy = p.busy;
+      left = p.left;
+      err = p.err;
+      word = p.word;
+    } };
 
-    ghost invariant = { λ p. IsPort (record { waits = p.waits.now; place = p.place; waited = p.waited; busy = p.busy; left = p.left; err = p.err; word = p.word }) };
+    ghost invariant = { λ p. IsPort (record {
+      waits = p.waits.now;
+      place = p.place;
+      waited = p.waited;
+      busy = p.busy;
+      left = p.left;
+      err = p.err;
+      word = p.word;
+    }) };
 }
 
 impl<'w> Port<'w> {
@@ -42,12 +58,13 @@ impl<'w> Port<'w> {
     pub fn new(waits: &'w [Wait]) -> Port<'w>
         ensures value { result ≡ new_port waits.now }
 
-        // Over every list of calls, transaction n, issued at t, is granted at t + g and answered at t + g + 1 + w, if each
-        // request is held until its grant and the next one comes with the answer or later.
+        // Over every list of calls, transaction n, issued at t, is granted at t + g and answered at t + g + 1 + w, if
+        // each request is held until its grant and the next one comes with the answer or later.
         ensures granted { (calls : List Call) → GrantsInTime waits.now calls }
         ensures answered { (calls : List Call) → AnswersInTime waits.now calls }
 
-        // Over every list of calls, polite or not, each grant has one answer, with the error and the word of that transaction.
+        // Over every list of calls, polite or not, each grant has one answer, with the error and the word of that
+        // transaction.
         ensures in_order { (calls : List Call) → AnswersInOrder waits.now calls }
     {
         Port {
@@ -125,7 +142,8 @@ impl<'w> Port<'w> {
         // Only a store to RAM that is granted changes a word, and it changes that word alone.
         ensures unchanged { (result && is_store mem.old req.now) ≡ false → mem.new ≡ mem.old }
         ensures stores { (result && is_store mem.old req.now) ≡ true → StoresWord mem.old mem.new req.now }
-        ensures others { (i : ℕ) → i ≢ index_of mem.old req.now.addr → slice_index mem.new.words i ≡ slice_index mem.old.words i }
+        ensures others { (i : ℕ) → i ≢ index_of mem.old req.now.addr
+            → slice_index mem.new.words i ≡ slice_index mem.old.words i }
         ensures host { host_page_has req.now.addr ≡ true → mem.new ≡ mem.old }
         ensures base { mem.new.base ≡ mem.old.base }
         ensures length { length mem.new.words ≡ length mem.old.words }

@@ -12,8 +12,8 @@ use Rattle.ibx_command.specs.Parts.{Piece, pieces_of, all_fit, files_of, only, b
 use Rattle.ibx_command.specs.Numbers.{cycles_rule, ram_base_rule, ram_size_rule}
 use Rattle.ibx_command.specs.Options.{plan_name, mul_name, IsInRange, plan_choice_in, plan_in, options_in, ram_in}
 
--- what a command does: run a file with or without a plan; run a file twice, with and without the flip of the plan; run two
--- files and compare them; run the program of a number; turn a text into a file; or print a file's code as text
+-- what a command does: run a file with or without a plan; run a file twice, with and without the flip of the plan; run
+-- two files and compare them; run the program of a number; turn a text into a file; or print a file's code as text
 pub data Meaning : Type 0 where
   Running : List ℕ → Option (List ℕ) → Options → Meaning
   Injecting : List ℕ → List ℕ → Options → Meaning
@@ -47,21 +47,24 @@ run_options = cycles_rule.name ∷ plan_name ∷ mul_name ∷ ram_base_rule.name
 -- what the words after `run` mean: each piece fits, and there is one file
 unfoldable pub run_of : List Piece → Option Meaning
 run_of pieces = if all_fit run_options pieces
-    then option_and_then (λ file. option_and_then (λ plan. option_map (Running file plan) (options_in pieces)) (plan_choice_in pieces))
+    then option_and_then (λ file. option_and_then (λ plan. option_map (Running file plan) (options_in pieces))
+    (plan_choice_in pieces))
     (only (files_of pieces))
     else None
 
 -- what the words after `inject` mean: each piece fits, and there is one file and a plan
 unfoldable pub inject_of : List Piece → Option Meaning
 inject_of pieces = if all_fit run_options pieces
-    then option_and_then (λ file. option_and_then (λ plan. option_map (Injecting file plan) (options_in pieces)) (plan_in pieces))
+    then option_and_then (λ file. option_and_then (λ plan. option_map (Injecting file plan) (options_in pieces))
+    (plan_in pieces))
     (only (files_of pieces))
     else None
 
 -- what the words after `twin` mean: each piece fits, and there are two files
 unfoldable pub twin_of : List Piece → Option Meaning
 twin_of pieces = if all_fit run_options pieces
-    then option_and_then (λ files. option_and_then (λ plan. option_map (Twinning files.0 files.1 plan) (options_in pieces))
+    then option_and_then
+    (λ files. option_and_then (λ plan. option_map (Twinning files.0 files.1 plan) (options_in pieces))
     (plan_choice_in pieces)) (both (files_of pieces))
     else None
 
@@ -76,7 +79,8 @@ seed_named word = option_and_then (λ n. if nat_le n 0xffffffff then Some n else
 -- what the words after `gen` mean: each piece fits, and in the place of the file stands a seed
 unfoldable pub gen_of : List Piece → Option Meaning
 gen_of pieces = if all_fit gen_options pieces
-    then option_and_then (λ file. option_and_then (λ seed. option_map (Generating seed) (options_in pieces)) (seed_named file))
+    then option_and_then (λ file. option_and_then (λ seed. option_map (Generating seed) (options_in pieces))
+    (seed_named file))
     (only (files_of pieces))
     else None
 

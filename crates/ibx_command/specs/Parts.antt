@@ -1,5 +1,6 @@
 -- The words after a command, as files and options (the grammar is our own rule).
-use Rattle.std.specs.Prelude.{ℕ, Bool, false, not, ◌&&◌, nat_lt, nat_eq, List, [], ◌∷◌, length, codes, Option, Some, None, if◌then◌else◌}
+use Rattle.std.specs.Prelude.{ℕ, Bool, false, not, ◌&&◌, nat_lt, nat_eq, List, [], ◌∷◌, length, codes, Option, Some}
+use Rattle.std.specs.Prelude.{None, if◌then◌else◌}
 use Rattle.std.specs.List.{starts_with, list_all, list_any, filter_map}
 use Rattle.std.specs.Str.{bytes_eq}
 
@@ -18,7 +19,8 @@ is_dashed word = starts_with nat_eq word (codes "-")
 unfoldable pub pieces_behind : Option (List ℕ) → List (List ℕ) → List Piece
 pieces_behind None [] = []
 pieces_behind (Some name) [] = BarePiece ∷ []
-pieces_behind None (word ∷ more) = if is_dashed word then pieces_behind (Some word) more else FilePiece word ∷ pieces_behind None more
+pieces_behind None (word ∷ more) =
+    if is_dashed word then pieces_behind (Some word) more else FilePiece word ∷ pieces_behind None more
 pieces_behind (Some name) (word ∷ more) = SettingPiece name word ∷ pieces_behind None more
 
 -- what the words after a command stand for

@@ -1,7 +1,8 @@
 ghost use Rattle.std.specs.Prelude.{◌≡◌, map, string_bytes, IfSome};
 ghost use Rattle.std.specs.Option.{option_map};
 ghost use Rattle.ibx_command.specs.Parts.{only, both, files_of, pieces_of};
-ghost use Rattle.ibx_command.specs.Command.{meaning_of, IsPossible, seed_named, run_of, inject_of, twin_of, gen_of, asm_of, dis_of, command_of};
+ghost use Rattle.ibx_command.specs.Command.{meaning_of, IsPossible, seed_named, run_of, inject_of, twin_of, gen_of};
+ghost use Rattle.ibx_command.specs.Command.{asm_of, dis_of, command_of};
 
 use crate::numbers::{CYCLES, RAM_BASE, RAM_SIZE};
 use crate::options::{MUL, Options, PLAN, options_in, plan_choice_in, plan_in, ram_in};

@@ -2,7 +2,8 @@ ghost use Rattle.std.specs.Prelude.{◌≡◌, map, string_bytes, IfSome};
 ghost use Rattle.std.specs.Option.{option_map};
 ghost use Rattle.ibx_elf.specs.Ram.{IsRamRange};
 ghost use Rattle.ibx_command.specs.Parts.{pieces_of};
-ghost use Rattle.ibx_command.specs.Options.{IsInRange, mul_named, mul_in, plan_choice_in, plan_in, checked_ram, ram_in, options_in};
+ghost use Rattle.ibx_command.specs.Options.{IsInRange, mul_named, mul_in, plan_choice_in, plan_in, checked_ram};
+ghost use Rattle.ibx_command.specs.Options.{ram_in, options_in};
 
 use crate::numbers::{CYCLES, RAM_BASE, RAM_SIZE, number_in};
 use crate::parts::{Found, Wanted, find};
@@ -62,7 +63,8 @@ pub(crate) fn plan_in(words: &[String]) -> Option<&str>
 /// The name of the plan, if it is given. None where it is given twice, or is empty.
 #[tactic(auto, unfolding(crate::specs::Options::plan_choice))]
 pub(crate) fn plan_choice_in(words: &[String]) -> Option<Option<&str>>
-    ensures { option_map (λ plan. option_map (λ name. name.now) plan) result ≡ plan_choice_in (pieces_of (map string_bytes words.now)) }
+    ensures { option_map (λ plan. option_map (λ name. name.now) plan) result
+        ≡ plan_choice_in (pieces_of (map string_bytes words.now)) }
 {
     match find(words, Wanted::ValueOf(PLAN)) {
         Found::Nothing => Some(None),

@@ -134,7 +134,8 @@ pub(crate) fn find<'w>(words: &'w [String], wanted: Wanted<'_>) -> Found<'w>
 // The first file among words, and the words behind it.
 fn next_file<'w>(words: &'w [String]) -> Option<(&'w str, &'w [String])>
     ensures { MatchOption result (files_of (pieces_of (map string_bytes words.now)) ≡ [])
-        (λ p. files_of (pieces_of (map string_bytes words.now)) ≡ p.0.now ∷ files_of (pieces_of (map string_bytes p.1.now))) }
+        (λ p. files_of (pieces_of (map string_bytes words.now))
+        ≡ p.0.now ∷ files_of (pieces_of (map string_bytes p.1.now))) }
 {
     let mut rest = words;
     while let Some((part, more)) = first_part(rest) {

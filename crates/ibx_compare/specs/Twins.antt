@@ -22,8 +22,9 @@ agree_operands a b = a.0 == b.0 && a.1 == b.1
 -- whether two views are equal
 abbrev pub agree_views : View → View → Bool
 agree_views a b =
-    a.kind == b.kind && (a.pc == b.pc && (a.word == b.word && (option_eq (λ x y. x == y) a.addr b.addr && (
-    option_eq (λ x y. x == y) a.ctl b.ctl && (option_eq agree_operands a.ops b.ops && (a.cause == b.cause && a.tval == b.tval))))))
+    a.kind == b.kind && (a.pc == b.pc && (a.word == b.word && (option_eq (λ x y. x == y) a.addr b.addr
+    && (option_eq (λ x y. x == y) a.ctl b.ctl && (option_eq agree_operands a.ops b.ops
+    && (a.cause == b.cause && a.tval == b.tval))))))
 
 -- Two lists of views, the first of which have this index: how many there are, where they are the same, and else the
 -- first index at which they differ or one has ended, with both views.
@@ -90,7 +91,8 @@ left_after halted cycles = if halted then 0 else cycles
 -- by the event of a first cycle, by what is left and the state after it, and by the run from there
 unfoldable pub told_by : Option Event → ℕ → Whole State → Told → Told
 told_by None cycles next rest = rest
-told_by (Some event) cycles next rest = record { event = Some event; left = left_after (halts event) cycles; next = next }
+told_by (Some event) cycles next rest =
+    record { event = Some event; left = left_after (halts event) cycles; next = next }
 
 -- the run of at most so many cycles from a state on, up to its next event
 unfoldable pub told : ℕ → Whole State → Told

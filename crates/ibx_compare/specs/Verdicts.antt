@@ -20,8 +20,8 @@ alerts_in w f n = (cycle_of (before_step core_parts w (Some f) n)).alerts
 abbrev pub with_alerts : Whole State → Flip → Option ℕ → Option (ℕ × Alerts)
 with_alerts w f cycle = option_map (λ n. (n, alerts_in w f n)) cycle
 
--- The first cycle, below so many, in which the bus differs between the run without the flip and the run with it; and the first, in two
--- cycles more, in which the run with it has an alert, with the set of its alerts.
+-- The first cycle, below so many, in which the bus differs between the run without the flip and the run with it; and
+-- the first, in two cycles more, in which the run with it has an alert, with the set of its alerts.
 unfoldable pub verdict : Whole State → Flip → ℕ → Verdict
 verdict w f cycles = record {
   first_diff = first_diff core_parts w f cycles;
@@ -31,9 +31,9 @@ verdict w f cycles = record {
 -- whether the wires of both buses are equal
 abbrev pub agree_wires : BusOut → BusOut → Bool
 agree_wires a b =
-    beq a.fetch.valid b.fetch.valid && ((a.fetch.addr == b.fetch.addr) && (beq a.load_store.valid b.load_store.valid && (
-    beq a.load_store.write b.load_store.write && ((a.load_store.be == b.load_store.be) && (
-    (a.load_store.addr == b.load_store.addr) && (a.load_store.word == b.load_store.word))))))
+    beq a.fetch.valid b.fetch.valid && ((a.fetch.addr == b.fetch.addr) && (beq a.load_store.valid b.load_store.valid
+    && (beq a.load_store.write b.load_store.write && ((a.load_store.be == b.load_store.be)
+    && ((a.load_store.addr == b.load_store.addr) && (a.load_store.word == b.load_store.word))))))
 
 -- what a search has found after one more number is tested
 abbrev pub then_test : {A : Type 0} → Option A → Bool → A → Option A

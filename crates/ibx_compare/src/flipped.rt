@@ -60,8 +60,10 @@ fn turn(soc: &mut Soc<'_>, flip: &Flip) -> Cycle
 impl Verdict {
     // Takes what a cycle of both systems shows, where the bus counts or not.
     fn note(&mut self, at: u64, counts: bool, clean: &Cycle, faulty: &Cycle)
-        ensures diff { self.new.first_diff ≡ then_test self.old.first_diff (counts && not (agree_wires clean.now.bus faulty.now.bus)) at }
-        ensures alert { self.new.first_alert ≡ then_test self.old.first_alert (not (faulty.now.alerts.0 == 0)) (at, faulty.now.alerts) }
+        ensures diff { self.new.first_diff ≡ then_test self.old.first_diff
+            (counts && not (agree_wires clean.now.bus faulty.now.bus)) at }
+        ensures alert { self.new.first_alert ≡ then_test self.old.first_alert (not (faulty.now.alerts.0 == 0))
+            (at, faulty.now.alerts) }
     {
         if self.first_diff.is_none() && counts && !same_bus(&clean.bus, &faulty.bus) {
             self.first_diff = Some(at);

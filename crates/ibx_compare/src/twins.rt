@@ -35,8 +35,8 @@ fn next_view(soc: &mut Soc<'_>, left: &mut u64) -> Option<View>
 }
 
 /// Tells the stories of two systems, each at most `cycles` cycles long, 1 to 1,000,000,000, one event of each at a
-/// time, and compares the views. Both are as `Soc::new` left them, with equal configuration and plan where the answer is
-/// to tell of cycles too. It ends at the first difference, and takes no memory.
+/// time, and compares the views. Both are as `Soc::new` left them, with equal configuration and plan where the answer
+/// is to tell of cycles too. It ends at the first difference, and takes no memory.
 pub fn twin(a: &mut Soc<'_>, b: &mut Soc<'_>, cycles: u64) -> Twin
     requires a_new { IsAsNew a.old }
     requires b_new { IsAsNew b.old }

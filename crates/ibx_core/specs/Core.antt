@@ -1,5 +1,6 @@
 -- The core: what a cycle comes to from the fields and the wires, in order, and the fields after it. Our own rule.
-use Rattle.std.specs.Prelude.{◌≡◌, ℕ, ◌+◌, ◌*◌, ◌%◌, ◌^◌, Bool, true, false, not, ◌&&◌, ◌||◌, ◌==◌, if◌then◌else◌, Option, Some, None, IfSome, bit_and}
+use Rattle.std.specs.Prelude.{◌≡◌, ℕ, ◌+◌, ◌*◌, ◌%◌, ◌^◌, Bool, true, false, not, ◌&&◌, ◌||◌, ◌==◌, if◌then◌else◌}
+use Rattle.std.specs.Prelude.{Option, Some, None, IfSome, bit_and}
 use Rattle.ibx_isa.specs.declared.event.Access.{Access}
 use Rattle.ibx_isa.specs.declared.event.Event.{Event}
 use Rattle.ibx_isa.specs.declared.bus.Req.{Req}
@@ -51,8 +52,8 @@ takes0 w tag0 = looks w && matches tag0 w.c_addr
 abbrev pub takes1 : WordPort → ℕ → ℕ → Bool
 takes1 w tag0 tag1 = looks w && (not (matches tag0 w.c_addr) && matches tag1 w.c_addr)
 
--- The wires with 0 in place of each unused word: of an answer that isn't valid, of a tag where nothing is looked up, and of a data
--- word where it isn't that of the lowest matching way.
+-- The wires with 0 in place of each unused word: of an answer that isn't valid, of a tag where nothing is looked up,
+-- and of a data word where it isn't that of the lowest matching way.
 unfoldable pub heard : State → InWires → InWires
 heard x i = record i {
   irsp_word = if i.irsp_valid then i.irsp_word else 0;
@@ -71,7 +72,13 @@ look_in i = record { tag0 = i.tag0; tag1 = i.tag1; data0 = i.data0; data1 = i.da
 
 -- what the word port is handed; the cache is enabled as the events before this cycle left it
 unfoldable pub port_of : State → InWires → Option ℕ → Bool → WordIn
-port_of x i request fence = record { request = request; enable = not (bit_and x.csrs.cpuctrl icache_enable == 0); fence = fence; rsp = irsp_of i; look = look_in i }
+port_of x i request fence = record {
+  request = request;
+  enable = not (bit_and x.csrs.cpuctrl icache_enable == 0);
+  fence = fence;
+  rsp = irsp_of i;
+  look = look_in i;
+}
 
 -- the next two parcels; in the cycle of a redirect none is ready
 abbrev pub no_parcel : Parcel
@@ -86,8 +93,8 @@ head_at (Some target) g = record { first = no_parcel; second = no_parcel }
 abbrev pub head_by : Option ℕ → WordAns → Prefetch → Head
 head_by redirect ans f = head_at redirect (fetch_after_answer ans redirect f)
 
--- What a cycle comes to: what the stage sees, what its turn leaves, the word that answers the fetch side, what enters the stage, and
--- the byte address of the word that is requested.
+-- What a cycle comes to: what the stage sees, what its turn leaves, the word that answers the fetch side, what enters
+-- the stage, and the byte address of the word that is requested.
 pub record Cycle : Type 0 where
   pub sight : Sight
   pub effect : Effect
@@ -138,8 +145,8 @@ next_by c x i = record {
   csrs = c.effect.csrs;
 }
 
--- The fetch side's part of a cycle, on the fields as the turn left them, is told apart for the code, which makes a cycle in place: what
--- the word port is handed.
+-- The fetch side's part of a cycle, on the fields as the turn left them, is told apart for the code, which makes a
+-- cycle in place: what the word port is handed.
 abbrev pub asked : Sight → WordIn → WordAns → State → WordIn
 asked g port ans y = record port {
   request = request_of (fetch_after_answer ans (target_if (redirects g.turn) y.next_pc) y.fetch);
@@ -148,7 +155,8 @@ asked g port ans y = record port {
 
 -- what enters the stage
 abbrev pub entry_at : Sight → WordAns → ℕ → State → Entry
-entry_at g ans lines y = admits_at g.turn (head_by (target_if (redirects g.turn) y.next_pc) ans y.fetch) y.csrs y.dummies y.next_pc lines
+entry_at g ans lines y =
+    admits_at g.turn (head_by (target_if (redirects g.turn) y.next_pc) ans y.fetch) y.csrs y.dummies y.next_pc lines
 
 -- and the fields after it, while nothing is granted
 abbrev pub fetch_side : Sight → WordIn → WordAns → ℕ → State → State
@@ -243,9 +251,11 @@ with_reads o r = record o { ra = r.ra; rb = r.rb; line = r.line }
 
 -- the register write, its word encoded, and the event
 abbrev pub with_effect : OutWires → Option (ℕ × ℕ) → Option Event → OutWires
-with_effect o write happens = record o { rw = is_write write; rwn = write_register write; rwword = write_word write; event = happens }
+with_effect o write happens =
+    record o { rw = is_write write; rwn = write_register write; rwword = write_word write; event = happens }
 
--- a turn has left this effect: the fields and the wires by it, the dummies' count as it was, and an event that has a line
+-- a turn has left this effect: the fields and the wires by it, the dummies' count as it was, and an event that has a
+-- line
 pub record HasLeft (x : State) (o : OutWires) (e : Effect) (y : State) (p : OutWires) : Type 0 where
   pub fields : y ≡ left x e
   pub wires : p ≡ with_effect o e.write e.happens
@@ -309,8 +319,8 @@ reads_in o = record { ra = o.ra; rb = o.rb; line = o.line }
 
 -- ---- unused words
 
--- Two inputs are equal but for unused words: the word of an answer that isn't valid, a tag word where nothing is looked up, and a
--- data word that isn't that of the lowest matching way.
+-- Two inputs are equal but for unused words: the word of an answer that isn't valid, a tag word where nothing is
+-- looked up, and a data word that isn't that of the lowest matching way.
 pub record IsSameUsed (x : State) (i j : InWires) : Type 0 where
   pub irsp_valid : i.irsp_valid ≡ j.irsp_valid
   pub irsp_err : i.irsp_err ≡ j.irsp_err

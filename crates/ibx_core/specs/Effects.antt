@@ -1,12 +1,14 @@
--- What the turn of a cycle leaves: the registers, the program counter, a redirect, a register write, and the event. Our own rule; a
--- row's result is that of the Unprivileged ISA, 2, 7 and 9, and a trap's that of the Privileged ISA 1.12, 3.1.
+-- What the turn of a cycle leaves: the registers, the program counter, a redirect, a register write, and the event.
+-- Our own rule; a row's result is that of the Unprivileged ISA, 2, 7 and 9, and a trap's that of the Privileged ISA
+-- 1.12, 3.1.
 use Rattle.std.specs.Prelude.{ℕ, ◌+◌, ◌*◌, ◌/◌, ◌%◌, ◌^◌, Bool, true, false, ◌==◌, if◌then◌else◌, Option, Some, None}
 use Rattle.ibx_isa.specs.declared.event.Access.{Access}
 use Rattle.ibx_isa.specs.declared.event.Event.{Event}
 use Rattle.ibx_isa.specs.declared.event.Event.TheVariants as event
 use Rattle.ibx_isa.specs.declared.insn.Insn.{Insn}
 use Rattle.ibx_isa.specs.declared.insn.CsrOp.{CsrOp}
-use Rattle.ibx_isa.specs.declared.insn.Insn.TheVariants.{Lui, Auipc, Jal, Jalr, Branch, Load, AluImm, Alu, MulDiv, Csr, FenceI, Mret}
+use Rattle.ibx_isa.specs.declared.insn.Insn.TheVariants.{Lui, Auipc, Jal, Jalr, Branch, Load, AluImm, Alu, MulDiv, Csr}
+use Rattle.ibx_isa.specs.declared.insn.Insn.TheVariants.{FenceI, Mret}
 use Rattle.ibx_isa.specs.Alu.{alu_of, branch_of}
 use Rattle.ibx_isa.specs.Causes.{fetch_fault, illegal_instruction, load_fault, store_fault}
 use Rattle.ibx_isa.specs.CsrWrites.{writes, written}
@@ -30,8 +32,9 @@ use Rattle.ibx_core.specs.Sights.{is_fixed, stage_word}
 
 -- ---- what is left
 
--- What an instruction comes to that retires: the register that is written, 0 for none, and its value; the value handed to the write
--- of a CSR that controls the core; the address of the next instruction; the registers after it; and whether it is a FENCE.I.
+-- What an instruction comes to that retires: the register that is written, 0 for none, and its value; the value handed
+-- to the write of a CSR that controls the core; the address of the next instruction; the registers after it; and
+-- whether it is a FENCE.I.
 pub record Outcome : Type 0 where
   pub rd : ℕ
   pub value : ℕ
@@ -41,8 +44,9 @@ pub record Outcome : Type 0 where
   pub dummies : DummyUnit
   pub fence : Bool
 
--- What the turn of a cycle leaves: the registers; the address of the next real instruction; where the fetch side begins anew; the
--- register that is written, and its value; whether a FENCE.I retires; and the event, with the cycle 0.
+-- What the turn of a cycle leaves: the registers; the address of the next real instruction; where the fetch side
+-- begins anew; the register that is written, and its value; whether a FENCE.I retires; and the event, with the cycle
+-- 0.
 pub record Effect : Type 0 where
   pub csrs : Csrs
   pub dummies : DummyUnit
@@ -64,7 +68,8 @@ ticked x = tick_of x.csrs true None
 
 -- a value for a register, where to go on, and nothing else
 unfoldable pub plain_outcome : State → ℕ → ℕ → ℕ → Outcome
-plain_outcome x rd value next = record { rd = rd; value = value; ctl = None; next_pc = next; csrs = ticked x; dummies = x.dummies; fence = false }
+plain_outcome x rd value next =
+    record { rd = rd; value = value; ctl = None; next_pc = next; csrs = ticked x; dummies = x.dummies; fence = false }
 
 -- the access of a row, or a stand-in where it has none: a load of four bytes at 0
 abbrev pub access_or : Option Access → Access
@@ -88,7 +93,8 @@ csr_written x false rd old value addr = plain_outcome x rd old (following x.id)
 -- a CSR instruction, by whether it writes and the value of its source
 unfoldable pub csr_outcome : State → CsrOp → Bool → ℕ → ℕ → ℕ → ℕ → Outcome
 csr_outcome x op writing rd source addr lines =
-    let old = csr_value (csr_read (values x.csrs) addr lines) in csr_written x writing rd old (written op old source) addr
+    let old = csr_value (csr_read (values x.csrs) addr lines) in
+    csr_written x writing rd old (written op old source) addr
 
 -- by the row
 unfoldable pub outcome_by : Option Insn → State → Sight → ℕ → Outcome
@@ -96,14 +102,18 @@ outcome_by (Some (Lui rd imm)) x g lines = plain_outcome x rd imm (following x.i
 outcome_by (Some (Auipc rd imm)) x g lines = plain_outcome x rd ((x.id.pc + imm) % 2 ^ 32) (following x.id)
 outcome_by (Some (Jal rd imm)) x g lines = plain_outcome x rd (following x.id) ((x.id.pc + imm) % 2 ^ 32)
 outcome_by (Some (Jalr rd rs1 imm)) x g lines = plain_outcome x rd (following x.id) ((g.a + imm) % 2 ^ 32 / 2 * 2)
-outcome_by (Some (Branch op rs1 rs2 imm)) x g lines = plain_outcome x 0 0 (if branch_of op g.a g.b then (x.id.pc + imm) % 2 ^ 32 else following x.id)
-outcome_by (Some (Load op rd rs1 imm)) x g lines = plain_outcome x rd (gather_of op (access_or g.access).addr g.ls.first g.ls.second) (following x.id)
+outcome_by (Some (Branch op rs1 rs2 imm)) x g lines =
+    plain_outcome x 0 0 (if branch_of op g.a g.b then (x.id.pc + imm) % 2 ^ 32 else following x.id)
+outcome_by (Some (Load op rd rs1 imm)) x g lines =
+    plain_outcome x rd (gather_of op (access_or g.access).addr g.ls.first g.ls.second) (following x.id)
 outcome_by (Some (AluImm op rd rs1 imm)) x g lines = plain_outcome x rd (alu_of op g.a imm) (following x.id)
 outcome_by (Some (Alu op rd rs1 rs2)) x g lines = plain_outcome x rd (alu_of op g.a g.b) (following x.id)
 outcome_by (Some (MulDiv op rd rs1 rs2)) x g lines = plain_outcome x rd (result_of g.md) (following x.id)
-outcome_by (Some (Csr op rd src imm addr)) x g lines = csr_outcome x op (writes op src) rd (if imm then src else g.a) addr lines
+outcome_by (Some (Csr op rd src imm addr)) x g lines =
+    csr_outcome x op (writes op src) rd (if imm then src else g.a) addr lines
 outcome_by (Some FenceI) x g lines = record (plain_outcome x 0 0 (following x.id)) { fence = true }
-outcome_by (Some Mret) x g lines = record (plain_outcome x 0 0 x.csrs.mepc) { csrs = with_regs (ticked x) (leave_of (trap_regs (values x.csrs))) }
+outcome_by (Some Mret) x g lines =
+    record (plain_outcome x 0 0 x.csrs.mepc) { csrs = with_regs (ticked x) (leave_of (trap_regs (values x.csrs))) }
 outcome_by insn x g lines = plain_outcome x 0 0 (following x.id)
 
 -- where the fetch side begins anew, if the turn redirects
@@ -117,7 +127,9 @@ yield_of o = record { rd = o.rd; value = o.value; ctl = o.ctl }
 
 -- its event: x0 isn't written, and the operands are told where timing may depend on them
 abbrev pub retirement_by : IdState → Sight → Yield → Bool → Event
-retirement_by st g y fixed = event.Retire 0 st.pc (stage_word st) y.rd (if y.rd == 0 then 0 else y.value) g.access y.ctl (if fixed then None else Some (g.a, g.b))
+retirement_by st g y fixed =
+    event.Retire 0 st.pc (stage_word st) y.rd (if y.rd == 0 then 0 else y.value) g.access y.ctl
+    (if fixed then None else Some (g.a, g.b))
 
 -- the same of what it comes to: the operands are left out where cpuctrl asks for fixed timing
 abbrev pub retirement_of : State → Sight → Outcome → Event
@@ -143,7 +155,15 @@ retires x g redirect o = record {
 
 -- a cycle in which nothing retires: mcycle may move, minstret does not, and all else stays as it was
 unfoldable pub rests : State → Effect
-rests x = record { csrs = tick_of x.csrs false None; dummies = x.dummies; next_pc = x.next_pc; redirect = None; write = None; fence = false; happens = None }
+rests x = record {
+  csrs = tick_of x.csrs false None;
+  dummies = x.dummies;
+  next_pc = x.next_pc;
+  redirect = None;
+  write = None;
+  fence = false;
+  happens = None;
+}
 
 -- a trap with this cause and value, of an access at this address
 unfoldable pub fails : State → ℕ → ℕ → ℕ → Effect

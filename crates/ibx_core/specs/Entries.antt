@@ -1,5 +1,7 @@
--- What enters the stage next: an interrupt that is pending, a dummy that is due, or the instruction whose parcels are there. Our own rule.
-use Rattle.std.specs.Prelude.{◌<◌, ◌≤◌, ℕ, ◌+◌, ◌*◌, ◌/◌, ◌%◌, ◌^◌, Bool, true, false, not, ◌&&◌, ◌==◌, Option, Some, None, bit_and}
+-- What enters the stage next: an interrupt that is pending, a dummy that is due, or the instruction whose parcels are
+-- there. Our own rule.
+use Rattle.std.specs.Prelude.{◌<◌, ◌≤◌, ℕ, ◌+◌, ◌*◌, ◌/◌, ◌%◌, ◌^◌, Bool, true, false, not, ◌&&◌, ◌==◌, Option, Some}
+use Rattle.std.specs.Prelude.{None, bit_and}
 use Rattle.ibx_isa.specs.ControlBits.{dummy_instr_en, dummy_instr_mask}
 use Rattle.ibx_isa.specs.Lengths.{is_long}
 use Rattle.ibx_csr.specs.declared.csrs.Csrs.{Csrs}
@@ -26,7 +28,8 @@ pub record Entry : Type 0 where
 
 -- an item in its first cycle
 abbrev pub enters : ℕ → ℕ → ℕ → ℕ → IdState
-enters kind pc word fault = record { valid = true; kind = kind; pc = pc; word = word; fault = fault; phase = 0; count = 0 }
+enters kind pc word fault =
+    record { valid = true; kind = kind; pc = pc; word = word; fault = fault; phase = 0; count = 0 }
 
 -- dummies are enabled, and the mask of their distance
 abbrev pub enables_dummies : Csrs → Bool
@@ -36,15 +39,20 @@ enables_dummies c = not (bit_and c.cpuctrl dummy_instr_en == 0)
 abbrev pub dummy_mask : Csrs → ℕ
 dummy_mask c = bit_and c.cpuctrl dummy_instr_mask / 8
 
--- By whether the first parcel is ready and sound, it is long, and the second is ready and sound. An unsound first parcel is taken
--- alone, and an unsound second with the first.
+-- By whether the first parcel is ready and sound, it is long, and the second is ready and sound. An unsound first
+-- parcel is taken alone, and an unsound second with the first.
 unfoldable pub fetched_by : Bool → Bool → Bool → Bool → Bool → ℕ → ℕ → ℕ → DummyUnit → DummyUnit → Entry
-fetched_by false sound long ready2 sound2 pc first second d counted = record { id = empty_stage; taken = 0; dummies = d }
-fetched_by true false long ready2 sound2 pc first second d counted = record { id = enters 0 pc 0 1; taken = 1; dummies = counted }
-fetched_by true true false ready2 sound2 pc first second d counted = record { id = enters 0 pc first 0; taken = 1; dummies = counted }
+fetched_by false sound long ready2 sound2 pc first second d counted =
+    record { id = empty_stage; taken = 0; dummies = d }
+fetched_by true false long ready2 sound2 pc first second d counted =
+    record { id = enters 0 pc 0 1; taken = 1; dummies = counted }
+fetched_by true true false ready2 sound2 pc first second d counted =
+    record { id = enters 0 pc first 0; taken = 1; dummies = counted }
 fetched_by true true true false sound2 pc first second d counted = record { id = empty_stage; taken = 0; dummies = d }
-fetched_by true true true true false pc first second d counted = record { id = enters 0 pc 0 2; taken = 2; dummies = counted }
-fetched_by true true true true true pc first second d counted = record { id = enters 0 pc (first + 2 ^ 16 * second) 0; taken = 2; dummies = counted }
+fetched_by true true true true false pc first second d counted =
+    record { id = enters 0 pc 0 2; taken = 2; dummies = counted }
+fetched_by true true true true true pc first second d counted =
+    record { id = enters 0 pc (first + 2 ^ 16 * second) 0; taken = 2; dummies = counted }
 
 -- no entry of protection is in use, as at reset
 abbrev pub is_unset : Csrs → Bool
@@ -57,7 +65,9 @@ may_execute c addr = allowed (cfg_bytes (values c)) (values c).pmpaddr (addr / 2
 -- the instruction of the buffer's first parcels, each sound where its answer had no error and protection lets it run
 unfoldable pub fetched_of : Head → Csrs → DummyUnit → ℕ → Entry
 fetched_of h c d pc =
-    fetched_by h.first.ready (not h.first.err && may_execute c pc) (is_long h.first.half) h.second.ready (not h.second.err && may_execute c ((pc + 2) % 2 ^ 32)) pc h.first.half h.second.half d (counted_by (enables_dummies c) d)
+    fetched_by h.first.ready (not h.first.err && may_execute c pc) (is_long h.first.half) h.second.ready
+    (not h.second.err && may_execute c ((pc + 2) % 2 ^ 32)) pc h.first.half h.second.half d
+    (counted_by (enables_dummies c) d)
 
 -- by the interrupt that is pending, and whether a dummy is due
 unfoldable pub entry_by : Option ℕ → Bool → Head → Csrs → DummyUnit → ℕ → Entry
@@ -68,7 +78,8 @@ entry_by None false h c d pc = fetched_of h c d pc
 -- while the item is held nothing enters
 unfoldable pub admits_at : Turn → Head → Csrs → DummyUnit → ℕ → ℕ → Entry
 admits_at (Hold st) h c d pc lines = record { id = st; taken = 0; dummies = d }
-admits_at _ h c d pc lines = entry_by (pending_of c.priv_ c.mstatus c.mie lines) (is_due (enables_dummies c) (dummy_mask c) d) h c d pc
+admits_at _ h c d pc lines =
+    entry_by (pending_of c.priv_ c.mstatus c.mie lines) (is_due (enables_dummies c) (dummy_mask c) d) h c d pc
 
 -- all else is as this cycle's event left it
 abbrev pub admits_by : Turn → Head → Effect → ℕ → Entry

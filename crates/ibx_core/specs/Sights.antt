@@ -1,6 +1,7 @@
--- What the stage sees in a cycle: its row, its operands, its access, its unit of multiplication, its cause, and what it does.
--- Our own rule; the causes are those of the Privileged ISA 1.12, 3.1.15.
-use Rattle.std.specs.Prelude.{◌≡◌, ◌≤◌, IfSome, ℕ, ◌+◌, ◌%◌, ◌^◌, Bool, true, false, not, ◌&&◌, ◌||◌, ◌==◌, nat_lt, if◌then◌else◌, Option, Some, None, bit_and}
+-- What the stage sees in a cycle: its row, its operands, its access, its unit of multiplication, its cause, and what
+-- it does. Our own rule; the causes are those of the Privileged ISA 1.12, 3.1.15.
+use Rattle.std.specs.Prelude.{◌≡◌, ◌≤◌, IfSome, ℕ, ◌+◌, ◌%◌, ◌^◌, Bool, true, false, not, ◌&&◌, ◌||◌, ◌==◌, nat_lt}
+use Rattle.std.specs.Prelude.{if◌then◌else◌, Option, Some, None, bit_and}
 use Rattle.ibx_isa.specs.declared.event.Access.{Access}
 use Rattle.ibx_isa.specs.Events.{IsStore}
 use Rattle.ibx_isa.specs.declared.bus.Rsp.{Rsp}
@@ -64,14 +65,17 @@ rb_of st = read_by source2 (nat_lt st.phase 4) (row_of st)
 
 -- the access of a row with these operands
 unfoldable pub access_by : Option Insn → ℕ → ℕ → Option Access
-access_by (Some (Load op rd rs1 imm)) a b = Some (record { addr = (a + imm) % 2 ^ 32; size = size_of op; store = false; value = 0 })
-access_by (Some (Store size rs1 rs2 imm)) a b = Some (record { addr = (a + imm) % 2 ^ 32; size = size; store = true; value = b % 256 ^ size })
+access_by (Some (Load op rd rs1 imm)) a b =
+    Some (record { addr = (a + imm) % 2 ^ 32; size = size_of op; store = false; value = 0 })
+access_by (Some (Store size rs1 rs2 imm)) a b =
+    Some (record { addr = (a + imm) % 2 ^ 32; size = size; store = true; value = b % 256 ^ size })
 access_by insn a b = None
 
 -- protection refuses a portion of an access
 unfoldable pub is_denied : Csrs → Access → Bool → Bool
 is_denied c w second =
-    not (allowed (cfg_bytes (values c)) (values c).pmpaddr (portion_addr w.addr second) (portion_size w.addr w.size second) (if w.store then Write else Read) (access_machine (values c)))
+    not (allowed (cfg_bytes (values c)) (values c).pmpaddr (portion_addr w.addr second)
+    (portion_size w.addr w.size second) (if w.store then Write else Read) (access_machine (values c)))
 
 -- an access that crosses a word has a second portion
 abbrev pub has_second : Access → Bool
@@ -102,7 +106,8 @@ lacks_value (Some v) = false
 -- a CSR that isn't there or not for this mode, or a write where none can be made
 unfoldable pub csr_cause : Csrs → Bool → ℕ → Option ℕ
 csr_cause c writing addr =
-    if lacks_value (csr_read (values c) addr 0) || (writing && not (csr_can_write (values c) addr)) then Some illegal_instruction else None
+    if lacks_value (csr_read (values c) addr 0) || (writing && not (csr_can_write (values c) addr))
+    then Some illegal_instruction else None
 
 -- by the row of an item that was fetched soundly
 unfoldable pub row_cause : Csrs → Option Insn → Option ℕ
@@ -207,7 +212,8 @@ sight_of x i =
 
 -- ---- widths
 
--- the row is well formed, the access has at most four bytes and is a store for a store's row alone, its request is one that a port takes, and what is held keeps its widths
+-- the row is well formed, the access has at most four bytes and is a store for a store's row alone, its request is one
+-- that a port takes, and what is held keeps its widths
 pub record IsSight (x : State) (g : Sight) : Type 0 where
   pub row : IfSome g.row IsWellFormed
   pub access : IfSome g.access (λ w. w.size ≤ 4)

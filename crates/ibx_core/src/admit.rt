@@ -3,7 +3,9 @@ ghost use Rattle.ibx_id.specs.declared.stage.Turn.TheVariants.{Hold};
 ghost use Rattle.ibx_id.specs.declared.stage.IdState.{IdState};
 ghost use Rattle.ibx_id.specs.Turns.{IsWithinWidths, empty_stage};
 ghost use Rattle.ibx_dummy.specs.Dummies.{dummy_word, inserted};
-ghost use Rattle.ibx_core.specs.Entries.{admits_at, dummy_mask as dummy_mask_of, enables_dummies as enables_dummies_of, entered, enters, entry_by, fetched_by, fetched_of, may_execute as may_execute_of};
+ghost use Rattle.ibx_core.specs.Entries.{admits_at, dummy_mask as dummy_mask_of};
+ghost use Rattle.ibx_core.specs.Entries.{enables_dummies as enables_dummies_of, entered, enters, entry_by, fetched_by};
+ghost use Rattle.ibx_core.specs.Entries.{fetched_of, may_execute as may_execute_of};
 
 use crate::protection::may_execute;
 use crate::state::{EMPTY_STAGE, State};
@@ -71,7 +73,8 @@ impl State {
     #[tactic(auto, unfolding(crate::specs::Entries::fetched_of, crate::specs::Entries::fetched_by))]
     fn fetch_item(&mut self, head: &Head) -> u8
         requires { self.old.dummies.dcount < 2 ^ 5 }
-        ensures fields { self.new ≡ entered self.old (fetched_of head.now self.old.csrs self.old.dummies self.old.next_pc) }
+        ensures fields { self.new
+            ≡ entered self.old (fetched_of head.now self.old.csrs self.old.dummies self.old.next_pc) }
         ensures taken { result ≡ (fetched_of head.now self.old.csrs self.old.dummies self.old.next_pc).taken }
         ensures item { IsWithinWidths self.new.id }
         ensures count { self.new.dummies.dcount < 2 ^ 5 }
@@ -103,7 +106,10 @@ impl State {
     #[cold]
     fn insert(&mut self) -> u8
         requires { self.old.dummies.dcount < 2 ^ 5 }
-        ensures fields { self.new ≡ record self.old { id = enters 1 self.old.next_pc (dummy_word self.old.dummies.lfsr) 0; dummies = inserted self.old.dummies } }
+        ensures fields { self.new ≡ record self.old {
+          id = enters 1 self.old.next_pc (dummy_word self.old.dummies.lfsr) 0;
+          dummies = inserted self.old.dummies;
+        } }
         ensures taken { result ≡ 0 }
         ensures item { IsWithinWidths self.new.id }
         ensures count { self.new.dummies.dcount < 2 ^ 5 }
@@ -118,7 +124,8 @@ impl State {
     #[tactic(auto, unfolding(crate::specs::Entries::entry_by))]
     fn enter(&mut self, irq: Option<u8>, due: bool, head: &Head) -> u8
         requires { self.old.dummies.dcount < 2 ^ 5 }
-        ensures fields { self.new ≡ entered self.old (entry_by irq due head.now self.old.csrs self.old.dummies self.old.next_pc) }
+        ensures fields { self.new
+            ≡ entered self.old (entry_by irq due head.now self.old.csrs self.old.dummies self.old.next_pc) }
         ensures taken { result ≡ (entry_by irq due head.now self.old.csrs self.old.dummies self.old.next_pc).taken }
         ensures item { IsWithinWidths self.new.id }
         ensures count { self.new.dummies.dcount < 2 ^ 5 }
@@ -131,15 +138,17 @@ impl State {
         }
     }
 
-    /// What the stage holds in the next cycle, by the registers as this cycle's event left them, and how many parcels, 0 to
-    /// 2, leave the buffer for it.
+    /// What the stage holds in the next cycle, by the registers as this cycle's event left them, and how many parcels,
+    /// 0 to 2, leave the buffer for it.
     #[inline(always)]
     #[tactic(auto, unfolding(crate::specs::Entries::admits_at))]
     pub fn admit(&mut self, turn: &Turn, head: &Head, lines: u32) -> u8
         requires count { self.old.dummies.dcount < 2 ^ 5 }
         requires held { (next : IdState) → turn.now ≡ Hold next → IsWithinWidths next }
-        ensures fields { self.new ≡ entered self.old (admits_at turn.now head.now self.old.csrs self.old.dummies self.old.next_pc lines) }
-        ensures taken { result ≡ (admits_at turn.now head.now self.old.csrs self.old.dummies self.old.next_pc lines).taken }
+        ensures fields { self.new
+            ≡ entered self.old (admits_at turn.now head.now self.old.csrs self.old.dummies self.old.next_pc lines) }
+        ensures taken { result
+            ≡ (admits_at turn.now head.now self.old.csrs self.old.dummies self.old.next_pc lines).taken }
         ensures item { IsWithinWidths self.new.id }
         ensures count { self.new.dummies.dcount < 2 ^ 5 }
         ensures two { result ≤ 2 }

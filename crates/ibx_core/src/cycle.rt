@@ -1,11 +1,14 @@
-ghost use Rattle.std.specs.Prelude.{◌≡◌, ◌≤◌, ◌<◌, ◌^◌, ◌%◌, ◌==◌, ◌&&◌, IfSome, None, Some, false, true, if◌then◌else◌};
+ghost use Rattle.std.specs.Prelude.{◌≡◌, ◌≤◌, ◌<◌, ◌^◌, ◌%◌, ◌==◌, ◌&&◌, IfSome, None, Some, false, true};
+ghost use Rattle.std.specs.Prelude.{if◌then◌else◌};
 ghost use Rattle.ibx_isa.specs.Events.{IsPrintable};
 ghost use Rattle.ibx_icache.specs.WordPort.{IsInput, look_of, met_of, out_of, word_in};
 ghost use Rattle.ibx_muldiv.specs.Unit.{left_of, tick_of};
 ghost use Rattle.ibx_id.specs.Turns.{IsWithinWidths};
 ghost use Rattle.ibx_id.specs.declared.stage.IdState.{IdState};
 ghost use Rattle.ibx_id.specs.declared.stage.Turn.TheVariants.{Hold};
-ghost use Rattle.ibx_core.specs.Core.{asked, before_grants, core_next, core_out, cycle_seen, fetch_side, gives, granted, head_at, leaves, look_in, ls_by, md_next, next_by, out_by, port_of, with_port};
+ghost use Rattle.ibx_core.specs.Core.{asked, before_grants, core_next, core_out, cycle_seen, fetch_side, gives};
+ghost use Rattle.ibx_core.specs.Core.{granted, head_at, leaves, look_in, ls_by, md_next, next_by, out_by, port_of};
+ghost use Rattle.ibx_core.specs.Core.{with_port};
 ghost use Rattle.ibx_core.specs.Effects.{fences, redirects, target_if};
 ghost use Rattle.ibx_core.specs.Fields.{Fits};
 ghost use Rattle.ibx_core.specs.Sights.{IsSight, irsp_of, row_of};
@@ -144,7 +147,8 @@ impl State {
         requires input { IsInput cache.old }
         requires met { met.now ≡ met_of self.old.words cache.old.rsp (look_of cache.old.tags cache.old.lanes) }
         ensures moved { self.new ≡ fetch_side g.now (word_in cache.old) met.now.ans lines self.old }
-        ensures output { o.new ≡ with_port o.old (out_of self.old.words (asked g.now (word_in cache.old) met.now.ans self.old)) }
+        ensures output { o.new ≡ with_port o.old
+            (out_of self.old.words (asked g.now (word_in cache.old) met.now.ans self.old)) }
         ensures fetched { o.new.iaddr % 4 ≡ 0 }
         ensures fits { Fits self.new }
     {

@@ -2,7 +2,9 @@ ghost use Rattle.std.specs.Prelude.{◌≡◌, ◌<◌, ◌^◌, ◌==◌, IfSom
 ghost use Rattle.ibx_isa.specs.Events.{IsPrintable};
 ghost use Rattle.ibx_csr.specs.Fields.{tick_of, with_regs};
 ghost use Rattle.ibx_core.specs.Core.{HasLeft, with_effect};
-ghost use Rattle.ibx_core.specs.Effects.{access_or, carried, cause_fails, cause_or, effect_by, fails, interrupts, outcome_by, portion_fails, rests, retirement_by, retirement_of, trap_value_of, written_by};
+ghost use Rattle.ibx_core.specs.Effects.{access_or, carried, cause_fails, cause_or, effect_by, fails, interrupts};
+ghost use Rattle.ibx_core.specs.Effects.{outcome_by, portion_fails, rests, retirement_by, retirement_of};
+ghost use Rattle.ibx_core.specs.Effects.{trap_value_of, written_by};
 ghost use Rattle.ibx_core.specs.Sights.{IsSight};
 
 use crate::outcome::Yield;
@@ -50,7 +52,8 @@ fn put_event(o: &mut Out, event: Option<Event>)
 #[tactic(auto, unfolding(crate::specs::Core::write_word))]
 fn put_retirement(o: &mut Out, yields: &Yield, event: Event)
     requires { yields.now.rd < 32 }
-    ensures { o.new ≡ with_effect o.old (if yields.now.rd == 0 then None else Some (yields.now.rd, yields.now.value)) (Some event) }
+    ensures { o.new ≡ with_effect o.old (if yields.now.rd == 0 then None else Some (yields.now.rd, yields.now.value))
+        (Some event) }
 {
     let written = yields.rd != 0;
     o.rw = written;
@@ -93,7 +96,8 @@ impl State {
     fn retire(&mut self, g: &Sight, lines: u32, o: &mut Out)
         requires { IsSight self.old g.now }
         ensures fields { self.new ≡ carried self.old (outcome_by g.now.row self.old g.now lines) }
-        ensures wires { o.new ≡ with_effect o.old (written_by (outcome_by g.now.row self.old g.now lines)) (Some (retirement_of self.old g.now (outcome_by g.now.row self.old g.now lines))) }
+        ensures wires { o.new ≡ with_effect o.old (written_by (outcome_by g.now.row self.old g.now lines))
+            (Some (retirement_of self.old g.now (outcome_by g.now.row self.old g.now lines))) }
         ensures count { self.new.dummies.dcount ≡ self.old.dummies.dcount }
         ensures printable { IfSome o.new.event IsPrintable }
     {
@@ -114,7 +118,10 @@ impl State {
 
     // Goes to a handler, with these registers.
     fn go_to(&mut self, regs: &TrapRegs, target: u32)
-        ensures { self.new ≡ record self.old { next_pc = target; csrs = with_regs (tick_of self.old.csrs false None) regs.now } }
+        ensures { self.new ≡ record self.old {
+          next_pc = target;
+          csrs = with_regs (tick_of self.old.csrs false None) regs.now;
+        } }
     {
         self.csrs.tick(false, None);
         self.csrs.set_regs(regs);
@@ -195,8 +202,8 @@ impl State {
         );
     }
 
-    /// Moves the registers and the address of the next real instruction as the turn leaves them, and drives the register
-    /// write and the event.
+    /// Moves the registers and the address of the next real instruction as the turn leaves them, and drives the
+    /// register write and the event.
     #[inline(always)]
     #[tactic(auto, unfolding(crate::specs::Effects::effect_by, crate::specs::Effects::retires))]
     pub fn take(&mut self, g: &Sight, lines: u32, o: &mut Out)

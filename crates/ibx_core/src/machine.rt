@@ -1,6 +1,7 @@
 ghost use Rattle.std.specs.Prelude.{◌≡◌, ◌^◌, ◌<◌, ◌%◌, ◌/◌, ◌==◌, ◌&&◌, Bool, IfSome, slice_index, slice_set};
 ghost use Rattle.ibx_isa.specs.Events.{IsPrintable};
-ghost use Rattle.ibx_core.specs.Core.{IsBegun, IsSameUsed, core_next, core_out, granted, is_bus, is_internal, is_minor, reads_in, reads_of};
+ghost use Rattle.ibx_core.specs.Core.{IsBegun, IsSameUsed, core_next, core_out, granted, is_bus, is_internal};
+ghost use Rattle.ibx_core.specs.Core.{is_minor, reads_in, reads_of};
 ghost use Rattle.ibx_core.specs.Fields.{fields, reset_of};
 ghost use Rattle.ibx_core.specs.Wires.{InWires};
 ghost use Rattle.ibx_plan.specs.Names.{fields as field_table, width_in};
@@ -77,7 +78,8 @@ impl Core {
     pub fn out(&self, i: &In) -> Out
         ensures value { result ≡ core_out self.now i.now }
         // It doesn't depend on the grants and on unused words, and what is read is put out.
-        ensures grants { (igrant dgrant : Bool) → core_out self.now (record i.now { igrant = igrant; dgrant = dgrant }) ≡ result }
+        ensures grants { (igrant dgrant : Bool)
+            → core_out self.now (record i.now { igrant = igrant; dgrant = dgrant }) ≡ result }
         ensures unused { (other : InWires) → IsSameUsed self.now other i.now → core_out self.now other ≡ result }
         ensures reads { reads_in result ≡ reads_of self.now }
 
@@ -106,14 +108,15 @@ impl Core {
         self.state.advance(i);
     }
 
-    /// Begins a cycle with the wires `i`: puts the output, as `out` gives it, into `o`, and moves the fields as if nothing
-    /// were granted.
+    /// Begins a cycle with the wires `i`: puts the output, as `out` gives it, into `o`, and moves the fields as if
+    /// nothing were granted.
     #[tactic(auto, using(crate::proofs::Laws::ungranted))]
     pub fn begin(&mut self, i: &In, o: &mut Out)
         ensures value { o.new ≡ core_out self.old i.now }
         ensures begun { IsBegun self.old i.now self.new }
         // The output doesn't depend on the grants.
-        ensures grants { (igrant dgrant : Bool) → core_out self.old (record i.now { igrant = igrant; dgrant = dgrant }) ≡ o.new }
+        ensures grants { (igrant dgrant : Bool)
+            → core_out self.old (record i.now { igrant = igrant; dgrant = dgrant }) ≡ o.new }
 
         // Both addresses on the bus are those of words, and what is done has a printed line.
         ensures fetched { o.new.iaddr % 4 ≡ 0 }
@@ -128,7 +131,8 @@ impl Core {
     #[tactic(auto, using(crate::proofs::Laws::grants_last))]
     pub fn finish(&mut self, i: &In, o: &Out)
         ensures value { self.new ≡ granted i.now.igrant (i.now.dgrant && o.now.dreq) self.old }
-        ensures ended { (x : State) → IsBegun x i.now self.old → o.now ≡ core_out x i.now → self.new ≡ core_next x i.now }
+        ensures ended { (x : State) → IsBegun x i.now self.old → o.now ≡ core_out x i.now
+            → self.new ≡ core_next x i.now }
     {
         self.state.finish(i, o);
     }

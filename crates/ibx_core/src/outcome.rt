@@ -7,7 +7,8 @@ ghost use Rattle.ibx_csr.specs.Fields.{tick_of, values, with_regs, write_of};
 ghost use Rattle.ibx_csr.specs.Values.{csr_read, trap_regs};
 ghost use Rattle.ibx_dummy.specs.Dummies.{seeded};
 ghost use Rattle.ibx_trap.specs.Traps.{leave_of};
-ghost use Rattle.ibx_core.specs.Effects.{access_or, carried, csr_outcome, csr_value, csr_written, following as following_of, outcome_by, plain_outcome, yield_of};
+ghost use Rattle.ibx_core.specs.Effects.{access_or, carried, csr_outcome, csr_value, csr_written};
+ghost use Rattle.ibx_core.specs.Effects.{following as following_of, outcome_by, plain_outcome, yield_of};
 ghost use Rattle.ibx_core.specs.Sights.{IsSight};
 
 use crate::sight::Sight;
@@ -158,7 +159,10 @@ impl State {
     #[tactic(auto, unfolding(crate::specs::Effects::outcome_by, crate::specs::Effects::plain_outcome))]
     fn return_from_trap(&mut self) -> Yield
         ensures value { result ≡ yield_of (plain_outcome self.old 0 0 self.old.csrs.mepc) }
-        ensures fields { self.new ≡ record self.old { next_pc = self.old.csrs.mepc; csrs = with_regs (tick_of self.old.csrs true None) (leave_of (trap_regs (values self.old.csrs))) } }
+        ensures fields { self.new ≡ record self.old {
+          next_pc = self.old.csrs.mepc;
+          csrs = with_regs (tick_of self.old.csrs true None) (leave_of (trap_regs (values self.old.csrs)));
+        } }
     {
         let (regs, _) = leave(&self.csrs.regs());
         let yields = self.plain(0, 0, self.csrs.mepc);

@@ -2,7 +2,8 @@ ghost use Rattle.std.specs.Prelude.{◌≡◌, ◌≢◌, ◌<◌, ◌^◌};
 ghost use Rattle.ibx_isa.specs.Wires.{IsRequest};
 ghost use Rattle.ibx_icache.specs.WordPort.{AreCodewords, is_bad_word};
 ghost use Rattle.ibx_icache.specs.Rules.{IsOutput};
-ghost use Rattle.ibx_core.specs.Core.{alerts_of, is_bus, is_flipped as is_flipped_of, is_internal, is_minor, tag_ways, tag_word, with_access, with_port, with_reads};
+ghost use Rattle.ibx_core.specs.Core.{alerts_of, is_bus, is_flipped as is_flipped_of, is_internal, is_minor, tag_ways};
+ghost use Rattle.ibx_core.specs.Core.{tag_word, with_access, with_port, with_reads};
 
 use crate::cycle::instruction_answer;
 use crate::reads::Reads;

@@ -4,7 +4,10 @@ ghost use Rattle.ibx_isa.specs.WellFormed.{IsWellFormed};
 ghost use Rattle.ibx_isa.specs.Wires.{IsRequest};
 ghost use Rattle.ibx_muldiv.specs.Unit.{start_of};
 ghost use Rattle.ibx_secded.specs.Code.{payload_of};
-ghost use Rattle.ibx_core.specs.Sights.{IsSight, access_by, access_if, cause_if, cause_of, cost_by, csr_cause as csr_cause_of, drsp_of, fixed_in, is_active, is_fixed as is_fixed_of, is_real as is_real_of, md_by, mul_of, refused_by, row_cause as row_cause_of, row_of, sight_of, sight_with, turn_by};
+ghost use Rattle.ibx_core.specs.Sights.{IsSight, access_by, access_if, cause_if, cause_of, cost_by};
+ghost use Rattle.ibx_core.specs.Sights.{csr_cause as csr_cause_of, drsp_of, fixed_in, is_active};
+ghost use Rattle.ibx_core.specs.Sights.{is_fixed as is_fixed_of, is_real as is_real_of, md_by, mul_of, refused_by};
+ghost use Rattle.ibx_core.specs.Sights.{row_cause as row_cause_of, row_of, sight_of, sight_with, turn_by};
 
 use crate::protection::is_denied;
 use crate::reads::row;

@@ -1,5 +1,6 @@
 ghost use Rattle.std.specs.Prelude.{◌≡◌};
-ghost use Rattle.ibx_csr.specs.Bits.{row as row_of, bits_of, legal as legal_word, is_control as controls, is_control_at as controls_at};
+ghost use Rattle.ibx_csr.specs.Bits.{row as row_of, bits_of, legal as legal_word, is_control as controls};
+ghost use Rattle.ibx_csr.specs.Bits.{is_control_at as controls_at};
 
 use crate::name::{Csr, csr_at};
 use ibx_bits::INTERRUPT_LINES;

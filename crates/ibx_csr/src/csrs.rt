@@ -1,8 +1,11 @@
 ghost use Rattle.std.specs.Prelude.{◌≡◌, ℕ, ◌+◌, ◌^◌, ◌<◌, ◌↔◌, None, is_some, slice_index, false};
 ghost use Rattle.ibx_csr.specs.Bits.{at_reset as reset_value};
 ghost use Rattle.ibx_csr.specs.Kept.{is_addr_locked};
-ghost use Rattle.ibx_csr.specs.Values.{CsrValues, csr_reset, value_of, csr_read, csr_can_write, csr_write, OthersStay, csr_tick, counters_after, counted as count_after, cfg_bytes, trap_regs, kept_regs, with_trap_regs};
-ghost use Rattle.ibx_csr.specs.Fields.{values, Complemented, reset_of, put_of, write_of, tick_of, passed, with_regs, glitch_of};
+ghost use Rattle.ibx_csr.specs.Values.{CsrValues, csr_reset, value_of, csr_read, csr_can_write, csr_write, OthersStay};
+ghost use Rattle.ibx_csr.specs.Values.{csr_tick, counters_after, counted as count_after, cfg_bytes, trap_regs};
+ghost use Rattle.ibx_csr.specs.Values.{kept_regs, with_trap_regs};
+ghost use Rattle.ibx_csr.specs.Fields.{values, Complemented, reset_of, put_of, write_of, tick_of, passed, with_regs};
+ghost use Rattle.ibx_csr.specs.Fields.{glitch_of};
 ghost use Rattle.ibx_csr.specs.Modes.{access_machine, may_wait};
 
 use crate::kept::{stored_cfg, stored_mstatus, with_high, with_low};
@@ -160,7 +163,8 @@ impl Csrs {
     /// interrupt lines of the cycle, which `mip` reads (Privileged ISA 1.12, chapter 2).
     pub fn read(&self, addr: u16, lines: u32) -> Option<u32>
         ensures value { result ≡ csr_read (values self.now) addr lines }
-        ensures known { (v : CsrValues) (other : ℕ) → v.machine ≡ self.now.priv_ → is_some (csr_read v addr other) ≡ is_some result }
+        ensures known { (v : CsrValues) (other : ℕ) → v.machine ≡ self.now.priv_
+            → is_some (csr_read v addr other) ≡ is_some result }
     {
         self.read_at(addr, lines)
     }

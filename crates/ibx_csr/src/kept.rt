@@ -1,5 +1,7 @@
 ghost use Rattle.std.specs.Prelude.{◌≡◌, ◌<◌, ◌^◌};
-ghost use Rattle.ibx_csr.specs.Kept.{stored_mstatus as mstatus_after, stored_cfg as cfg_after, kept_byte as byte_after, legal_byte as legal, with_low as low_written, with_high as high_written};
+ghost use Rattle.ibx_csr.specs.Kept.{stored_mstatus as mstatus_after, stored_cfg as cfg_after};
+ghost use Rattle.ibx_csr.specs.Kept.{kept_byte as byte_after, legal_byte as legal, with_low as low_written};
+ghost use Rattle.ibx_csr.specs.Kept.{with_high as high_written};
 
 use crate::name::Csr;
 use ibx_bits::byte_at;

@@ -1,5 +1,6 @@
 ghost use Rattle.std.specs.Prelude.{◌≡◌, ◌^◌, ◌<◌};
-ghost use Rattle.ibx_decoder.specs.Compressed.{i_word as i_word_of, s_word as s_word_of, b_word as b_word_of, u_word as u_word_of, j_word as j_word_of, r_word as r_word_of};
+ghost use Rattle.ibx_decoder.specs.Compressed.{i_word as i_word_of, s_word as s_word_of, b_word as b_word_of};
+ghost use Rattle.ibx_decoder.specs.Compressed.{u_word as u_word_of, j_word as j_word_of, r_word as r_word_of};
 
 /// The opcodes of the expansions (RISC-V Unprivileged ISA, 24).
 pub const LOAD: u32 = 0x03;

@@ -1,6 +1,9 @@
 ghost use Rattle.std.specs.Prelude.{◌≡◌, ◌^◌, ◌<◌};
 ghost use Rattle.ibx_bits.specs.Bytes.{bits_at};
-ghost use Rattle.ibx_decoder.specs.Compressed.{wide_rd as wide_rd_of, wide_rs2 as wide_rs2_of, high_reg as high_reg_of, low_reg as low_reg_of, imm_addi4spn, imm_lw, imm_lwsp, imm_swsp, imm_six, imm_lui, imm_addi16sp, imm_jump, imm_branch};
+ghost use Rattle.ibx_decoder.specs.Compressed.{wide_rd as wide_rd_of, wide_rs2 as wide_rs2_of};
+ghost use Rattle.ibx_decoder.specs.Compressed.{high_reg as high_reg_of, low_reg as low_reg_of, imm_addi4spn, imm_lw};
+ghost use Rattle.ibx_decoder.specs.Compressed.{imm_lwsp, imm_swsp, imm_six, imm_lui, imm_addi16sp, imm_jump};
+ghost use Rattle.ibx_decoder.specs.Compressed.{imm_branch};
 
 use crate::fields;
 

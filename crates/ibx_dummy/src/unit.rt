@@ -1,5 +1,6 @@
 ghost use Rattle.std.specs.Prelude.{◌≡◌, ◌≢◌, ◌+◌, ◌<◌, ◌≤◌, true, false, IsTrue, ◌↔◌};
-ghost use Rattle.ibx_dummy.specs.Dummies.{counted_by, dummies_reset, dummy_funct, dummy_word, inserted, is_due, lfsr_next, seeded, threshold};
+ghost use Rattle.ibx_dummy.specs.Dummies.{counted_by, dummies_reset, dummy_funct, dummy_word, inserted, is_due};
+ghost use Rattle.ibx_dummy.specs.Dummies.{lfsr_next, seeded, threshold};
 ghost use Rattle.ibx_dummy.specs.Laws.{IsDummyOf, IsThreshold, Shifts, stepped_back};
 
 /// Dummy instructions: a register that shifts with feedback, and the real instructions since the last dummy.

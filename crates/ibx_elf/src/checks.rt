@@ -1,4 +1,5 @@
-ghost use Rattle.ibx_elf.specs.Faults.{AreAscending, Reports, entry_fault, file_header_fault, first_overlap, outside_fault, overlap_fault, segment_fault};
+ghost use Rattle.ibx_elf.specs.Faults.{AreAscending, Reports, entry_fault, file_header_fault, first_overlap};
+ghost use Rattle.ibx_elf.specs.Faults.{outside_fault, overlap_fault, segment_fault};
 ghost use Rattle.ibx_elf.specs.Fields.{HasHeaders, e_phnum, program_header};
 ghost use Rattle.ibx_elf.specs.Search.{first_below};
 ghost use Rattle.std.specs.Prelude.{IsTrue, OnOk, length, ◌<◌, ◌≤◌, ◌↔◌};

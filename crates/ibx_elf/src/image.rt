@@ -1,5 +1,6 @@
 ghost use Rattle.ibx_elf.specs.Faults.{IsWellFormed, Reports, first_fault};
-ghost use Rattle.ibx_elf.specs.Image.{HoldsBytes, HoldsSegments, HoldsWords, IsReadable, IsZeroElsewhere, Placed, image_byte, image_of, placed_byte, image_word};
+ghost use Rattle.ibx_elf.specs.Image.{HoldsBytes, HoldsSegments, HoldsWords, IsReadable, IsZeroElsewhere, Placed};
+ghost use Rattle.ibx_elf.specs.Image.{image_byte, image_of, placed_byte, image_word};
 ghost use Rattle.ibx_elf.specs.Ram.{IsInRam, IsRamRange};
 ghost use Rattle.std.specs.Prelude.{IfOk, Some, ℕ, length, slice_get, ◌+◌, ◌*◌, ◌%◌, ◌/◌, ◌<◌, ◌^◌, ◌≡◌};
 

@@ -36,7 +36,8 @@ fn file_bytes(file: &[u8], header: ProgramHeader) -> &[u8]
 pub(crate) fn segment_at(file: &[u8], index: u16) -> (u32, &[u8])
     requires readable { IsReadable file.now }
     requires index { index < length (segments_below file.now (e_phnum file.now)) }
-    ensures { slice_get (segments_below file.now (e_phnum file.now)) index ≡ Some (record { addr = result.0; bytes = result.1.now }) }
+    ensures { slice_get (segments_below file.now (e_phnum file.now)) index
+        ≡ Some (record { addr = result.0; bytes = result.1.now }) }
 {
     let mut left = index;
     for i in 0..header_count(file) {

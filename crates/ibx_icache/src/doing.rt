@@ -1,5 +1,6 @@
 ghost use Rattle.std.specs.Prelude.{◌≡◌};
-ghost use Rattle.ibx_icache.specs.Doing.{answers_by, doing_of, granted_by, is_look, is_rest, state_of, stores_by, wires_by};
+ghost use Rattle.ibx_icache.specs.Doing.{answers_by, doing_of, granted_by, is_look, is_rest, state_of, stores_by};
+ghost use Rattle.ibx_icache.specs.Doing.{wires_by};
 ghost use Rattle.ibx_isa.specs.Wires.{fetch_wires};
 
 use ibx_isa::Req;

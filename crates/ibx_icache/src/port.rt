@@ -1,10 +1,16 @@
-ghost use Rattle.std.specs.Prelude.{◌≡◌, ◌≢◌, ◌+◌, ◌*◌, ◌/◌, ◌%◌, ◌^◌, ◌<◌, ◌≤◌, Bool, Decides, true, false, ◌&&◌, ◌||◌, not, ◌==◌, nat_le};
+ghost use Rattle.std.specs.Prelude.{◌≡◌, ◌≢◌, ◌+◌, ◌*◌, ◌/◌, ◌%◌, ◌^◌, ◌<◌, ◌≤◌, Bool, Decides, true, false, ◌&&◌};
+ghost use Rattle.std.specs.Prelude.{◌||◌, not, ◌==◌, nat_le};
 ghost use Rattle.ibx_isa.specs.declared.bus.Rsp.{Rsp};
 ghost use Rattle.ibx_secded.specs.Code.{payload_of, syndrome_of};
 ghost use Rattle.ibx_prefetch.specs.Buffer.{entry_of};
 ghost use Rattle.ibx_icache.specs.Doing.{doing_of, granted_by, is_rest, state_of, wires_by};
-ghost use Rattle.ibx_icache.specs.WordPort.{AreCodewords, AreSound, IsFields, IsInput, WordIn, answer_of, begun_by, entry_by, filling_of, gone_by, half_of, is_bad_word, is_cached, is_hit, look_of, looked, marked, met_of, out_of, reset_of, rsp_entry, stores_of, victim_of, walked, word_in, word_port_next};
-ghost use Rattle.ibx_icache.specs.Rules.{Empties, Emptying, IsBad, IsFetch, IsGiven, IsHit, IsMiss, IsOutput, IsStored, IsVictim, KeepsFences, StoresLine, WalksOn, half_at, hit_answer, word_in_way};
+ghost use Rattle.ibx_icache.specs.WordPort.{AreCodewords, AreSound, IsFields, IsInput, WordIn, answer_of, begun_by};
+ghost use Rattle.ibx_icache.specs.WordPort.{entry_by, filling_of, gone_by, half_of, is_bad_word, is_cached, is_hit};
+ghost use Rattle.ibx_icache.specs.WordPort.{look_of, looked, marked, met_of, out_of, reset_of, rsp_entry, stores_of};
+ghost use Rattle.ibx_icache.specs.WordPort.{victim_of, walked, word_in, word_port_next};
+ghost use Rattle.ibx_icache.specs.Rules.{Empties, Emptying, IsBad, IsFetch, IsGiven, IsHit, IsMiss, IsOutput};
+ghost use Rattle.ibx_icache.specs.Rules.{IsStored, IsVictim, KeepsFences, StoresLine, WalksOn, half_at, hit_answer};
+ghost use Rattle.ibx_icache.specs.Rules.{word_in_way};
 
 use crate::doing::Doing;
 use crate::lookup::{Found, Look};
@@ -60,8 +66,8 @@ impl WordPort {
         ensures fields { result ≡ reset_of }
         ensures widths { IsFields result }
 
-        // From here the walk empties set n in cycle n, and no line is stored with a FENCE.I from its request to its second
-        // answer, whatever comes.
+        // From here the walk empties set n in cycle n, and no line is stored with a FENCE.I from its request to its
+        // second answer, whatever comes.
         ensures emptying { Emptying result }
         ensures fences { KeepsFences result }
     {
@@ -85,15 +91,17 @@ impl WordPort {
         if self.c_state == 1 { self.c_addr } else { 0 }
     }
 
-    /// The answer of this cycle to the outstanding request. It is an error where the bus answered one, or where a bit of its
-    /// word was flipped. Where nothing answers, all else is 0.
+    /// The answer of this cycle to the outstanding request. It is an error where the bus answered one, or where a bit
+    /// of its word was flipped. Where nothing answers, all else is 0.
     pub fn answer(&self, i: &CacheIn) -> WordAns
         requires { IsInput i.now }
         ensures value { result ≡ answer_of self.now i.now.rsp (look_of i.now.tags i.now.lanes) }
 
         // A lookup answers exactly where the lowest way that matches is there and no way is bad, with that way's word.
-        ensures hit { self.now.c_state ≡ 1 → Decides result.valid ((way : Bool) × IsHit (look_of i.now.tags i.now.lanes) self.now.c_addr way) }
-        ensures word { self.now.c_state ≡ 1 → (way : Bool) → IsHit (look_of i.now.tags i.now.lanes) self.now.c_addr way → result ≡ hit_answer (payload_of 32 (word_in_way (look_of i.now.tags i.now.lanes) way)) }
+        ensures hit { self.now.c_state ≡ 1
+            → Decides result.valid ((way : Bool) × IsHit (look_of i.now.tags i.now.lanes) self.now.c_addr way) }
+        ensures word { self.now.c_state ≡ 1 → (way : Bool) → IsHit (look_of i.now.tags i.now.lanes) self.now.c_addr way
+            → result ≡ hit_answer (payload_of 32 (word_in_way (look_of i.now.tags i.now.lanes) way)) }
 
         // After a miss it answers with its own word of the line, and with that word's error.
         ensures last { self.now.c_state ≡ 6 → IsGiven result (half_at self.now (self.now.c_addr / 4 % 2)) }
@@ -121,10 +129,12 @@ impl WordPort {
         ensures empties { self.now.c_walk < 256 → Empties self.now.c_walk result }
         ensures ended { 256 ≤ self.now.c_walk → result.clear ≡ false }
 
-        // MINOR exactly where a way that is looked up is bad, BUS exactly where a word that the bus answers has a flipped
-        // bit, and no other alert.
-        ensures minor { Decides (result.alerts.0 % 2 == 1) ((self.now.c_state ≡ 1) × ((way : Bool) × IsBad (look_of i.now.tags i.now.lanes) self.now.c_addr way)) }
-        ensures bus { Decides (result.alerts.0 / 4 == 1) ((i.now.rsp.valid ≡ true) × (syndrome_of 32 7 i.now.rsp.word ≢ 0)) }
+        // MINOR exactly where a way that is looked up is bad, BUS exactly where a word that the bus answers has a
+        // flipped bit, and no other alert.
+        ensures minor { Decides (result.alerts.0 % 2 == 1) ((self.now.c_state ≡ 1)
+            × ((way : Bool) × IsBad (look_of i.now.tags i.now.lanes) self.now.c_addr way)) }
+        ensures bus { Decides (result.alerts.0 / 4 == 1) ((i.now.rsp.valid ≡ true)
+            × (syndrome_of 32 7 i.now.rsp.word ≢ 0)) }
         ensures internal { result.alerts.0 / 2 % 2 ≡ 0 }
     {
         self.outcome(i)
@@ -136,9 +146,10 @@ impl WordPort {
         ensures fields { self.new ≡ word_port_next self.old (word_in i.now) i.now.granted }
         ensures widths { IsFields self.old → IsFields self.new }
 
-        // A miss fills the lowest way that is bad, else the lowest that is empty, else the other than that of the last stored
-        // line.
-        ensures victim { self.old.c_state ≡ 1 → IsMiss (look_of i.now.tags i.now.lanes) self.old.c_addr → IsVictim (look_of i.now.tags i.now.lanes) self.old.c_addr self.old.c_alt self.new.c_way }
+        // A miss fills the lowest way that is bad, else the lowest that is empty, else the other than that of the last
+        // stored line.
+        ensures victim { self.old.c_state ≡ 1 → IsMiss (look_of i.now.tags i.now.lanes) self.old.c_addr
+            → IsVictim (look_of i.now.tags i.now.lanes) self.old.c_addr self.old.c_alt self.new.c_way }
         ensures turned { IsStored self.old (word_in i.now) → self.new.c_alt ≡ not self.old.c_way }
         ensures kept { ¬ IsStored self.old (word_in i.now) → self.new.c_alt ≡ self.old.c_alt }
 
@@ -188,10 +199,12 @@ impl WordPort {
     #[inline(always)]
     #[tactic(auto, using(crate::proofs::Turned::grant_rules))]
     pub fn grant(&mut self)
-        ensures value { self.new ≡ record self.old { c_state = state_of (granted_by true (doing_of self.old.c_state)) } }
+        ensures value { self.new
+            ≡ record self.old { c_state = state_of (granted_by true (doing_of self.old.c_state)) } }
 
         // After `turn` it is the cycle in which the request is granted.
-        ensures law { (w : WordPort) (i : WordIn) → self.old ≡ word_port_next w i false → self.new ≡ word_port_next w i true }
+        ensures law { (w : WordPort) (i : WordIn) → self.old ≡ word_port_next w i false
+            → self.new ≡ word_port_next w i true }
         ensures kept { IsFields self.old → IsFields self.new }
     {
         self.c_state = Doing::of(self.c_state).granted(true).state();
@@ -263,7 +276,8 @@ impl WordPort {
         ensures fetch { IsFetch result.bus }
         ensures stored { result.ways ≢ 0 → IsStored self.now (word_in i.now) }
         ensures line { IsStored self.now (word_in i.now) → StoresLine self.now (word_in i.now) result }
-        ensures bus { Decides (result.alerts.0 / 4 == 1) ((i.now.rsp.valid ≡ true) × (syndrome_of 32 7 i.now.rsp.word ≢ 0)) }
+        ensures bus { Decides (result.alerts.0 / 4 == 1) ((i.now.rsp.valid ≡ true)
+            × (syndrome_of 32 7 i.now.rsp.word ≢ 0)) }
     {
         self.driven(i)
     }
@@ -365,7 +379,9 @@ impl WordPort {
     fn go(&mut self, i: &CacheIn, met: &Met, flipped: bool)
         requires met { met.now ≡ met_of self.old i.now.rsp (look_of i.now.tags i.now.lanes) }
         requires flipped { flipped ≡ (i.now.rsp.valid && is_bad_word i.now.rsp.word) }
-        ensures { self.new ≡ gone_by (doing_of self.old.c_state) i.now.rsp.valid (is_hit (look_of i.now.tags i.now.lanes) self.old.c_addr) (stores_of self.old (word_in i.now)) (victim_of (look_of i.now.tags i.now.lanes) self.old.c_addr self.old.c_alt) (rsp_entry i.now.rsp) self.old }
+        ensures { self.new ≡ gone_by (doing_of self.old.c_state) i.now.rsp.valid
+            (is_hit (look_of i.now.tags i.now.lanes) self.old.c_addr) (stores_of self.old (word_in i.now))
+            (victim_of (look_of i.now.tags i.now.lanes) self.old.c_addr self.old.c_alt) (rsp_entry i.now.rsp) self.old }
     {
         match Doing::of(self.c_state) {
             Doing::Looks if met.hit => self.c_state = 0,

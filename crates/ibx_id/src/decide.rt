@@ -8,9 +8,9 @@ use crate::stage::{IdIn, IdState, Turn};
 use ibx_isa::{Insn, branch};
 
 /// What the stage does in this cycle (our own rule). An item is done as many cycles after the one in which it entered
-/// as the table of costs gives: a load or store at the answer of its last part, a WFI in the first cycle in which it is
-/// woken, and a trap one cycle after it was found. Where `st` is an item that enters, `stay` says this of all its cycles,
-/// whatever `wake`, `ls_done` and `ls_fault` are in each.
+/// as the table of costs gives: a load or store at the answer of its last part, a WFI in the first cycle in which it
+/// is woken, and a trap one cycle after it was found. Where `st` is an item that enters, `stay` says this of all its
+/// cycles, whatever `wake`, `ls_done` and `ls_fault` are in each.
 #[tactic(auto, using(crate::proofs::Held::held_fits, crate::proofs::Stays::keeps_costs), unfolding(crate::specs::Turns::turn_of))]
 pub fn turn(st: &IdState, i: &IdIn) -> Turn
     ensures turn { result ≡ turn_of st.now i.now }

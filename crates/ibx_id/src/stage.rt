@@ -13,8 +13,8 @@ pub struct IdState {
     pub word: u32,
     /// 0, or the parcel, 1 or 2, that was unsound, of 2 bits.
     pub fault: u8,
-    /// 0 in the item's first cycle, 1 in a later one, 2 where the first portion failed and 3 where the second did in the cycle
-    /// before, and 4 in the second cycle of another trap, of 3 bits. 5 to 7 act as 4.
+    /// 0 in the item's first cycle, 1 in a later one, 2 where the first portion failed and 3 where the second did in
+    /// the cycle before, and 4 in the second cycle of another trap, of 3 bits. 5 to 7 act as 4.
     pub phase: u8,
     /// The cycles since the item entered, up to 63, where it stays.
     pub count: u8,

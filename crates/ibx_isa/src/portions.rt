@@ -1,6 +1,7 @@
 ghost use Rattle.std.specs.Prelude.{◌≡◌, ◌+◌, ◌*◌, ◌/◌, ◌%◌, ◌^◌, ◌<◌, ◌≤◌, count_ones};
 ghost use Rattle.ibx_bits.specs.Bytes.{bits_number, bytes_number};
-ghost use Rattle.ibx_isa.specs.Portions.{gather_of, is_held, lane_byte, lanes_of, loaded, parts_of, portion_addr, portion_size, size_of};
+ghost use Rattle.ibx_isa.specs.Portions.{gather_of, is_held, lane_byte, lanes_of, loaded, parts_of, portion_addr};
+ghost use Rattle.ibx_isa.specs.Portions.{portion_size, size_of};
 
 use crate::insn::LoadOp;
 

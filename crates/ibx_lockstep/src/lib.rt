@@ -1,5 +1,5 @@
-//! Two cores in lockstep: the shadow runs two cycles behind main, by main's own inputs, and a comparator tells where the
-//! shadow's output isn't the one that main gave then.
+//! Two cores in lockstep: the shadow runs two cycles behind main, by main's own inputs, and a comparator tells where
+//! the shadow's output isn't the one that main gave then.
 #![tactic(auto)]
 
 mod core_cycle;

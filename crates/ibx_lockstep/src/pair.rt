@@ -111,8 +111,8 @@ impl<C: CoreStep> Pair<C> {
         self.age = age;
     }
 
-    /// Ends a cycle with main's input `i` and its output `o`, and says whether a difference is told in it: whether, from
-    /// the age of 2 on, the shadow's output for the older input isn't the same as the older output.
+    /// Ends a cycle with main's input `i` and its output `o`, and says whether a difference is told in it: whether,
+    /// from the age of 2 on, the shadow's output for the older input isn't the same as the older output.
     #[tactic(auto, unfolding(crate::specs::Paired::is_told, crate::specs::Paired::stepped), using(crate::proofs::Pairs::newer_pushed, crate::proofs::Pairs::older_pushed))]
     pub fn step(&mut self, i: &C::In, o: &C::Out) -> bool
         requires { o.now ≡ C.gives (seen self.old).main i.now }
@@ -120,7 +120,8 @@ impl<C: CoreStep> Pair<C> {
         ensures moved { seen self.new ≡ stepped C.leaves (seen self.old) i.now o.now }
         // the same by the words of the laws
         ensures told_later { result ≡ is_told_after 2 C.gives C.agree (lockstep_of (seen self.old)) }
-        ensures moved_later { lockstep_of (seen self.new) ≡ stepped_after 2 C.leaves (lockstep_of (seen self.old)) i.now o.now }
+        ensures moved_later { lockstep_of (seen self.new) ≡ stepped_after 2 C.leaves (lockstep_of (seen self.old))
+            i.now o.now }
     {
         let told = self.told();
         self.follow();
@@ -132,7 +133,11 @@ impl<C: CoreStep> Pair<C> {
     // Puts main's input and output in as the newer pair, and counts the cycle.
     #[inline(always)]
     fn delay_on(&mut self, i: &C::In, o: &C::Out)
-        ensures { self.new ≡ record self.old { inputs = pushed self.old.inputs i.now; outputs = pushed self.old.outputs o.now; age = min (self.old.age + 1) 2 } }
+        ensures { self.new ≡ record self.old {
+          inputs = pushed self.old.inputs i.now;
+          outputs = pushed self.old.outputs o.now;
+          age = min (self.old.age + 1) 2;
+        } }
     {
         self.inputs.slots.push(DEPTH, i);
         self.outputs.slots.push(DEPTH, o);
@@ -155,7 +160,10 @@ impl<C: CoreStep> Pair<C> {
 
     // Moves the shadow by the older input, where two cycles have gone by.
     fn follow(&mut self)
-        ensures { self.new ≡ record self.old { shadow = (if nat_le 2 self.old.age then C.leaves self.old.shadow (back_of self.old.inputs 2) else self.old.shadow) } }
+        ensures { self.new ≡ record self.old {
+          shadow = (if nat_le 2 self.old.age
+              then C.leaves self.old.shadow (back_of self.old.inputs 2) else self.old.shadow);
+        } }
     {
         if self.age >= DELAY {
             self.shadow
@@ -181,11 +189,15 @@ impl<C: CoreCycle> Pair<C> {
     #[tactic(auto, unfolding(crate::specs::Paired::is_told, crate::specs::Paired::stepped), using(crate::proofs::Pairs::newer_pushed, crate::proofs::Pairs::older_pushed))]
     pub fn finish(&mut self, i: &C::In, o: &C::Out, own: &mut C::Out) -> bool
         ensures told { result ≡ is_told C.gives C.agree (seen self.old) }
-        ensures moved { (main : C) → C.begun main i.now (seen self.old).main → o.now ≡ C.gives main i.now → seen self.new ≡ stepped C.leaves (record (seen self.old) { main = main }) i.now o.now }
-        ensures own { own.new ≡ (if nat_le 2 (seen self.old).age then C.gives (seen self.old).shadow (seen self.old).older.0 else own.old) }
+        ensures moved { (main : C) → C.begun main i.now (seen self.old).main → o.now ≡ C.gives main i.now
+            → seen self.new ≡ stepped C.leaves (record (seen self.old) { main = main }) i.now o.now }
+        ensures own { own.new ≡ (if nat_le 2 (seen self.old).age
+            then C.gives (seen self.old).shadow (seen self.old).older.0 else own.old) }
         // the same by the words of the laws
         ensures told_later { result ≡ is_told_after 2 C.gives C.agree (lockstep_of (seen self.old)) }
-        ensures moved_later { (main : C) → C.begun main i.now (seen self.old).main → o.now ≡ C.gives main i.now → lockstep_of (seen self.new) ≡ stepped_after 2 C.leaves (lockstep_of (record (seen self.old) { main = main })) i.now o.now }
+        ensures moved_later { (main : C) → C.begun main i.now (seen self.old).main → o.now ≡ C.gives main i.now
+            → lockstep_of (seen self.new)
+            ≡ stepped_after 2 C.leaves (lockstep_of (record (seen self.old) { main = main })) i.now o.now }
     {
         let told = self.follow_once(own);
         self.main.finish(i, o);
@@ -198,8 +210,12 @@ impl<C: CoreCycle> Pair<C> {
     #[tactic(auto, unfolding(crate::specs::Paired::is_told))]
     fn follow_once(&mut self, own: &mut C::Out) -> bool
         ensures told { result ≡ is_told C.gives C.agree (seen self.old) }
-        ensures own { own.new ≡ (if nat_le 2 self.old.age then C.gives self.old.shadow (back_of self.old.inputs 2) else own.old) }
-        ensures moved { self.new ≡ record self.old { shadow = (if nat_le 2 self.old.age then C.leaves self.old.shadow (back_of self.old.inputs 2) else self.old.shadow) } }
+        ensures own { own.new ≡ (if nat_le 2 self.old.age then C.gives self.old.shadow (back_of self.old.inputs 2)
+            else own.old) }
+        ensures moved { self.new ≡ record self.old {
+          shadow = (if nat_le 2 self.old.age
+              then C.leaves self.old.shadow (back_of self.old.inputs 2) else self.old.shadow);
+        } }
     {
         if self.age < DELAY {
             return false;

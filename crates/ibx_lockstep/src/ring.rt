@@ -1,5 +1,7 @@
-ghost use Rattle.std.specs.Prelude.{◌≡◌, ◌≢◌, ◌-◌, ◌≤◌, ◌<◌, ℕ, List, ◌∷◌, Some, replicate, take, slice_get, slice_index_or, slice_set};
-ghost use Rattle.ibx_lockstep.specs.Rings.{after_push, after_pushes, back_of, filled, fresh, pushed, put, recent, slot, value_back, with_back, with_value_back};
+ghost use Rattle.std.specs.Prelude.{◌≡◌, ◌≢◌, ◌-◌, ◌≤◌, ◌<◌, ℕ, List, ◌∷◌, Some, replicate, take, slice_get};
+ghost use Rattle.std.specs.Prelude.{slice_index_or, slice_set};
+ghost use Rattle.ibx_lockstep.specs.Rings.{after_push, after_pushes, back_of, filled, fresh, pushed, put, recent};
+ghost use Rattle.ibx_lockstep.specs.Rings.{slot, value_back, with_back, with_value_back};
 
 use crate::slots::Slots;
 
@@ -16,8 +18,10 @@ impl<T: Copy, const D: usize> Ring<T, D> {
         requires four { D ≤ 4 }
         ensures value { result ≡ fresh first }
         ensures recent { recent result ≡ replicate D first }
-        // the k-th push before now, and the first value where there were fewer; the newest push stands first in the list
-        ensures law { (xs : List T) (k : ℕ) → 1 ≤ k → k ≤ D → back_of (after_pushes result xs) k ≡ slice_index_or xs (k - 1) first }
+        // the k-th push before now, and the first value where there were fewer; the newest push stands first in the
+        // list
+        ensures law { (xs : List T) (k : ℕ) → 1 ≤ k → k ≤ D → back_of (after_pushes result xs) k
+            ≡ slice_index_or xs (k - 1) first }
     {
         Ring {
             slots: Slots::new(first),

@@ -1,7 +1,9 @@
 ghost use Rattle.std.specs.Prelude.{◌≡◌, ◌==◌, ◌+◌, ◌*◌, ◌/◌, ◌%◌, ◌^◌, ◌<◌, ◌≤◌, Bool, true, false, if◌then◌else◌};
 ghost use Rattle.ibx_secded.specs.Code.{encode_of, payload_of};
 ghost use Rattle.ibx_isa.specs.Portions.{portion_addr};
-ghost use Rattle.ibx_lsu.specs.Turns.{after_first, after_second, asked_first, asked_second, asks, crosses, faults, first_answer, gives, granted_of, idle_of, next_of, reply_of, second_answer, stage_of, turn_of, awaits};
+ghost use Rattle.ibx_lsu.specs.Turns.{after_first, after_second, asked_first, asked_second, asks, crosses, faults};
+ghost use Rattle.ibx_lsu.specs.Turns.{first_answer, gives, granted_of, idle_of, next_of, reply_of, second_answer};
+ghost use Rattle.ibx_lsu.specs.Turns.{stage_of, turn_of, awaits};
 ghost use Rattle.ibx_isa.specs.Wires.{no_request, request_of};
 ghost use Rattle.ibx_isa.specs.declared.event.Access.{Access};
 ghost use Rattle.ibx_isa.specs.declared.bus.Rsp.{Rsp};
@@ -114,9 +116,12 @@ impl Lsu {
     /// The request of a cycle was granted after `advance` ended the cycle without a grant.
     pub fn grant(&mut self)
         ensures fields { self.new ≡ granted_of self.old }
-        // It is what a grant in that cycle would have left, where a request was driven; where none was, a grant changes nothing.
-        ensures granted { (u : Lsu) (want : Access) (rsp : Rsp) → (turn_of u want rsp).req.valid ≡ true → self.old ≡ next_of u want rsp false → self.new ≡ next_of u want rsp true }
-        ensures silent { (u : Lsu) (want : Access) (rsp : Rsp) → (turn_of u want rsp).req.valid ≡ false → next_of u want rsp true ≡ next_of u want rsp false }
+        // It is what a grant in that cycle would have left, where a request was driven; where none was, a grant
+        // changes nothing.
+        ensures granted { (u : Lsu) (want : Access) (rsp : Rsp) → (turn_of u want rsp).req.valid ≡ true
+            → self.old ≡ next_of u want rsp false → self.new ≡ next_of u want rsp true }
+        ensures silent { (u : Lsu) (want : Access) (rsp : Rsp) → (turn_of u want rsp).req.valid ≡ false
+            → next_of u want rsp true ≡ next_of u want rsp false }
     {
         self.ls_state = granted_state(self.ls_state);
     }

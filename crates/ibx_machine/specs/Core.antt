@@ -1,11 +1,13 @@
 -- The core: what a cycle comes to from the fields and the inputs, in order, and the fields after it. Our own rule.
-use Rattle.std.specs.Prelude.{ℕ, ◌+◌, ◌*◌, ◌/◌, ◌%◌, ◌^◌, Bool, true, false, not, ◌&&◌, ◌||◌, ◌==◌, nat_lt, if◌then◌else◌, Option, Some, None, bit_and}
+use Rattle.std.specs.Prelude.{ℕ, ◌+◌, ◌*◌, ◌/◌, ◌%◌, ◌^◌, Bool, true, false, not, ◌&&◌, ◌||◌, ◌==◌, nat_lt}
+use Rattle.std.specs.Prelude.{if◌then◌else◌, Option, Some, None, bit_and}
 use Rattle.ibx_isa.specs.declared.bus.Req.{Req}
 use Rattle.ibx_isa.specs.declared.bus.Rsp.{Rsp}
 use Rattle.ibx_isa.specs.declared.event.Access.{Access}
 use Rattle.ibx_isa.specs.declared.event.Event.{Event}
 use Rattle.ibx_isa.specs.declared.insn.Insn.{Insn}
-use Rattle.ibx_isa.specs.declared.insn.Insn.TheVariants.{Lui, Auipc, Jal, Jalr, Branch, Load, Store, AluImm, Alu, MulDiv, Csr, FenceI, Ecall, Ebreak, Mret, Wfi}
+use Rattle.ibx_isa.specs.declared.insn.Insn.TheVariants.{Lui, Auipc, Jal, Jalr, Branch, Load, Store, AluImm, Alu}
+use Rattle.ibx_isa.specs.declared.insn.Insn.TheVariants.{MulDiv, Csr, FenceI, Ecall, Ebreak, Mret, Wfi}
 use Rattle.ibx_isa.specs.declared.insn.MulKind.{MulKind}
 use Rattle.ibx_isa.specs.Alu.{alu_of, branch_of}
 use Rattle.ibx_isa.specs.Cost.{md_cost_of}
@@ -99,19 +101,23 @@ rb_of st = read_by source2 (nat_lt st.phase 4) (row_of st)
 
 -- the access of a load or a store, at rs1 plus the immediate; a store keeps just the bytes of its size
 abbrev pub access_by : Option Insn → ℕ → ℕ → Option Access
-access_by (Some (Load op rd rs1 imm)) a b = Some (record { addr = (a + imm) % 2 ^ 32; size = size_of op; store = false; value = 0 })
-access_by (Some (Store size rs1 rs2 imm)) a b = Some (record { addr = (a + imm) % 2 ^ 32; size = size; store = true; value = b % 256 ^ size })
+access_by (Some (Load op rd rs1 imm)) a b =
+    Some (record { addr = (a + imm) % 2 ^ 32; size = size_of op; store = false; value = 0 })
+access_by (Some (Store size rs1 rs2 imm)) a b =
+    Some (record { addr = (a + imm) % 2 ^ 32; size = size; store = true; value = b % 256 ^ size })
 access_by insn a b = None
 
 -- PMP denies a portion of the access in the mode of loads and stores, which MPRV may change (Privileged ISA)
 abbrev pub is_denied : Csrs → Access → Bool → Bool
 is_denied c w second =
-    not (allowed (cfg_bytes (values c)) (values c).pmpaddr (portion_addr w.addr second) (portion_size w.addr w.size second) (if w.store then Write else Read) (access_machine (values c)))
+    not (allowed (cfg_bytes (values c)) (values c).pmpaddr (portion_addr w.addr second)
+    (portion_size w.addr w.size second) (if w.store then Write else Read) (access_machine (values c)))
 
 -- the portion that PMP denies, 1 or 2, before any request is made; 0 where it denies neither
 abbrev pub refused_by : Csrs → Option Access → ℕ
 refused_by c None = 0
-refused_by c (Some w) = if is_denied c w false then 1 else if has_second w.addr w.size && is_denied c w true then 2 else 0
+refused_by c (Some w) =
+    if is_denied c w false then 1 else if has_second w.addr w.size && is_denied c w true then 2 else 0
 
 -- the read of a CSR gives nothing, which makes the instruction illegal
 abbrev pub lacks_value : Option ℕ → Bool
@@ -122,11 +128,13 @@ lacks_value (Some v) = false
 unfoldable pub cause_of : Csrs → ℕ → Option Insn → Option ℕ
 cause_of c fault (Some (Csr op rd src imm addr)) =
     if not (fault == 0) then Some 1 else
-    if lacks_value (csr_read (values c) addr 0) || (writes op src && not (csr_can_write (values c) addr)) then Some 2 else None
+    if lacks_value (csr_read (values c) addr 0) || (writes op src && not (csr_can_write (values c) addr))
+    then Some 2 else None
 cause_of c fault (Some Ecall) = if not (fault == 0) then Some 1 else Some (if c.priv_ then 11 else 8)
 cause_of c fault (Some Ebreak) = if not (fault == 0) then Some 1 else Some 3
 cause_of c fault (Some Mret) = if not (fault == 0) then Some 1 else if c.priv_ then None else Some 2
-cause_of c fault (Some Wfi) = if not (fault == 0) then Some 1 else if c.priv_ || bit_and c.mstatus 0x200000 == 0 then None else Some 2
+cause_of c fault (Some Wfi) =
+    if not (fault == 0) then Some 1 else if c.priv_ || bit_and c.mstatus 0x200000 == 0 then None else Some 2
 cause_of c fault (Some insn) = if not (fault == 0) then Some 1 else None
 cause_of c fault None = if not (fault == 0) then Some 1 else Some 2
 
@@ -189,12 +197,24 @@ sight_by row a b real fixed x i =
       active = active;
       ls = ls;
       cause = cause;
-      turn = turn_of x.id (record { insn = row; a = a; b = b; fixed = fixed; cost = cost_by row b fixed i.mul; wake = not (bit_and i.lines x.csrs.mie == 0); trap = cause; ls_done = ls.done; ls_fault = if refused == 0 then ls.fault else refused });
+      turn = turn_of x.id (record {
+        insn = row;
+        a = a;
+        b = b;
+        fixed = fixed;
+        cost = cost_by row b fixed i.mul;
+        wake = not (bit_and i.lines x.csrs.mie == 0);
+        trap = cause;
+        ls_done = ls.done;
+        ls_fault = if refused == 0 then ls.fault else refused;
+      });
     }
 
 -- the same from the fields and inputs: operands are register words without check bits; a dummy's timing is fixed
 abbrev pub sight_of : Core → In → Sight
-sight_of x i = sight_by (row_of x.id) (payload_of 32 i.rega) (payload_of 32 i.regb) (is_real x.id) (x.id.kind == 1 || is_fixed x.csrs) x i
+sight_of x i =
+    sight_by (row_of x.id) (payload_of 32 i.rega) (payload_of 32 i.regb) (is_real x.id)
+    (x.id.kind == 1 || is_fixed x.csrs) x i
 
 -- ---- 3. what the turn leaves
 
@@ -210,7 +230,15 @@ pub record Effect : Type 0 where
 
 -- nothing retires: mcycle alone counts, unless mcountinhibit stops it, and all else stays
 abbrev pub rests : Core → Effect
-rests x = record { csrs = tick_of x.csrs false None; dummies = x.dummies; next_pc = x.next_pc; redirect = None; write = None; fence = false; happens = None }
+rests x = record {
+  csrs = tick_of x.csrs false None;
+  dummies = x.dummies;
+  next_pc = x.next_pc;
+  redirect = None;
+  write = None;
+  fence = false;
+  happens = None;
+}
 
 -- an exception enters its trap: fetch turns to the handler, and nothing retires (Privileged ISA, traps)
 abbrev pub fails : Core → ℕ → ℕ → ℕ → Effect
@@ -240,7 +268,10 @@ portion_fails x w second = fails x (if w.store then 7 else 5) (portion_addr w.ad
 -- mtval by cause: a fetch fault has the parcel's address, an illegal instruction its word, others 0
 abbrev pub cause_fails : Core → ℕ → Effect
 cause_fails x cause =
-    fails x cause (if cause == 1 then (if x.id.fault == 2 then (x.id.pc + 2) % 2 ^ 32 else x.id.pc) else if cause == 2 then stage_word x.id else 0) 0
+    fails x cause
+    (if cause == 1 then (if x.id.fault == 2 then (x.id.pc + 2) % 2 ^ 32 else x.id.pc)
+    else if cause == 2 then stage_word x.id else 0)
+    0
 
 -- an interrupt enters its trap: mepc is the item's pc, mtval is 0, and fetch turns to the handler
 abbrev pub interrupts : Core → ℕ → Effect
@@ -262,14 +293,16 @@ abbrev pub target_if : Bool → ℕ → Option ℕ
 target_if true target = Some target
 target_if false target = None
 
--- an instruction that retires: its register and value, its access, what it handed to a write, and the next program counter
+-- an instruction that retires: its register and value, its access, what it handed to a write, and the next program
+-- counter
 abbrev pub retires : Core → Sight → Bool → ℕ → ℕ → Option ℕ → ℕ → Csrs → Effect
 retires x g redirect rd value ctl next csrs = record (rests x) {
   csrs = csrs;
   next_pc = next;
   redirect = target_if redirect next;
   write = if rd == 0 then None else Some (rd, value);
-  happens = Some (event.Retire 0 x.id.pc (stage_word x.id) rd (if rd == 0 then 0 else value) g.access ctl (if is_fixed x.csrs then None else Some (g.a, g.b)));
+  happens = Some (event.Retire 0 x.id.pc (stage_word x.id) rd (if rd == 0 then 0 else value) g.access ctl
+      (if is_fixed x.csrs then None else Some (g.a, g.b)));
 }
 
 -- the counters after a retirement that writes none of them: both count where nothing inhibits them
@@ -284,7 +317,8 @@ csr_value None = 0
 -- a CSR row, by whether it writes: rd gets the old value, and a write of secureseed (0x7c1) seeds the dummies
 abbrev pub retires_csr : Core → Sight → Bool → ℕ → ℕ → ℕ → ℕ → Effect
 retires_csr x g true rd old value addr =
-    record (retires x g false rd old (if is_control_at addr then Some value else None) (following x) (write_of (tick_of x.csrs true (Some addr)) addr value)) {
+    record (retires x g false rd old (if is_control_at addr then Some value else None) (following x)
+    (write_of (tick_of x.csrs true (Some addr)) addr value)) {
       dummies = if addr == 0x7c1 then seeded value x.dummies else x.dummies;
     }
 retires_csr x g false rd old value addr = retires x g false rd old None (following x) (ticked x)
@@ -294,9 +328,12 @@ unfoldable pub retired_by : Option Insn → Bool → Core → Sight → In → E
 retired_by (Some (Lui rd imm)) r x g i = retires x g r rd imm None (following x) (ticked x)
 retired_by (Some (Auipc rd imm)) r x g i = retires x g r rd ((x.id.pc + imm) % 2 ^ 32) None (following x) (ticked x)
 retired_by (Some (Jal rd imm)) r x g i = retires x g r rd (following x) None ((x.id.pc + imm) % 2 ^ 32) (ticked x)
-retired_by (Some (Jalr rd rs1 imm)) r x g i = retires x g r rd (following x) None ((g.a + imm) % 2 ^ 32 / 2 * 2) (ticked x)
-retired_by (Some (Branch op rs1 rs2 imm)) r x g i = retires x g r 0 0 None (if branch_of op g.a g.b then (x.id.pc + imm) % 2 ^ 32 else following x) (ticked x)
-retired_by (Some (Load op rd rs1 imm)) r x g i = retires x g r rd (gather_of op (access_or g.access).addr g.ls.first g.ls.second) None (following x) (ticked x)
+retired_by (Some (Jalr rd rs1 imm)) r x g i =
+    retires x g r rd (following x) None ((g.a + imm) % 2 ^ 32 / 2 * 2) (ticked x)
+retired_by (Some (Branch op rs1 rs2 imm)) r x g i =
+    retires x g r 0 0 None (if branch_of op g.a g.b then (x.id.pc + imm) % 2 ^ 32 else following x) (ticked x)
+retired_by (Some (Load op rd rs1 imm)) r x g i =
+    retires x g r rd (gather_of op (access_or g.access).addr g.ls.first g.ls.second) None (following x) (ticked x)
 retired_by (Some (AluImm op rd rs1 imm)) r x g i = retires x g r rd (alu_of op g.a imm) None (following x) (ticked x)
 retired_by (Some (Alu op rd rs1 rs2)) r x g i = retires x g r rd (alu_of op g.a g.b) None (following x) (ticked x)
 retired_by (Some (MulDiv op rd rs1 rs2)) r x g i = retires x g r rd (result_of g.md) None (following x) (ticked x)
@@ -304,7 +341,8 @@ retired_by (Some (Csr op rd src imm addr)) r x g i =
     let old = csr_value (csr_read (values x.csrs) addr i.lines) in
     retires_csr x g (writes op src) rd old (written op old (if imm then src else g.a)) addr
 retired_by (Some FenceI) r x g i = record (retires x g r 0 0 None (following x) (ticked x)) { fence = true }
-retired_by (Some Mret) r x g i = retires x g r 0 0 None x.csrs.mepc (with_regs (ticked x) (leave_of (trap_regs (values x.csrs))))
+retired_by (Some Mret) r x g i =
+    retires x g r 0 0 None x.csrs.mepc (with_regs (ticked x) (leave_of (trap_regs (values x.csrs))))
 retired_by insn r x g i = retires x g r 0 0 None (following x) (ticked x)
 
 -- what each turn leaves; a trap is of portion 1, of portion 2, or of the instruction's own cause
@@ -329,16 +367,22 @@ pub record Entry : Type 0 where
 
 -- a new item at its first cycle; kind 0 is of the program, 1 a dummy, and 2 an interrupt
 abbrev pub enters : ℕ → ℕ → ℕ → ℕ → IdState
-enters kind pc word fault = record { valid = true; kind = kind; pc = pc; word = word; fault = fault; phase = 0; count = 0 }
+enters kind pc word fault =
+    record { valid = true; kind = kind; pc = pc; word = word; fault = fault; phase = 0; count = 0 }
 
 -- by whether the first parcel is ready and sound, it is long, and the second is ready and sound
 unfoldable pub fetched_by : Bool → Bool → Bool → Bool → Bool → ℕ → ℕ → ℕ → DummyUnit → DummyUnit → Entry
-fetched_by false sound long ready2 sound2 pc first second d counted = record { id = empty_stage; taken = 0; dummies = d }
-fetched_by true false long ready2 sound2 pc first second d counted = record { id = enters 0 pc 0 1; taken = 1; dummies = counted }
-fetched_by true true false ready2 sound2 pc first second d counted = record { id = enters 0 pc first 0; taken = 1; dummies = counted }
+fetched_by false sound long ready2 sound2 pc first second d counted =
+    record { id = empty_stage; taken = 0; dummies = d }
+fetched_by true false long ready2 sound2 pc first second d counted =
+    record { id = enters 0 pc 0 1; taken = 1; dummies = counted }
+fetched_by true true false ready2 sound2 pc first second d counted =
+    record { id = enters 0 pc first 0; taken = 1; dummies = counted }
 fetched_by true true true false sound2 pc first second d counted = record { id = empty_stage; taken = 0; dummies = d }
-fetched_by true true true true false pc first second d counted = record { id = enters 0 pc 0 2; taken = 2; dummies = counted }
-fetched_by true true true true true pc first second d counted = record { id = enters 0 pc (first + 2 ^ 16 * second) 0; taken = 2; dummies = counted }
+fetched_by true true true true false pc first second d counted =
+    record { id = enters 0 pc 0 2; taken = 2; dummies = counted }
+fetched_by true true true true true pc first second d counted =
+    record { id = enters 0 pc (first + 2 ^ 16 * second) 0; taken = 2; dummies = counted }
 
 -- PMP lets this mode execute the parcel of 2 bytes at the address (Privileged ISA)
 abbrev pub may_execute : Csrs → ℕ → Bool
@@ -347,7 +391,9 @@ may_execute c addr = allowed (cfg_bytes (values c)) (values c).pmpaddr (addr / 2
 -- the item that the head gives; a parcel is sound where its bus word was no error and PMP lets it execute
 abbrev pub fetched_of : Head → Csrs → DummyUnit → ℕ → Entry
 fetched_of h c d pc =
-    fetched_by h.first.ready (not h.first.err && may_execute c pc) (is_long h.first.half) h.second.ready (not h.second.err && may_execute c ((pc + 2) % 2 ^ 32)) pc h.first.half h.second.half d (counted_in (ctl_of (values c)) d)
+    fetched_by h.first.ready (not h.first.err && may_execute c pc) (is_long h.first.half) h.second.ready
+    (not h.second.err && may_execute c ((pc + 2) % 2 ^ 32)) pc h.first.half h.second.half d
+    (counted_in (ctl_of (values c)) d)
 
 -- a pending interrupt goes before a dummy that is due, and both before what was fetched; only that takes parcels
 unfoldable pub entry_by : Option ℕ → Bool → Head → Csrs → DummyUnit → ℕ → Entry
@@ -359,7 +405,8 @@ entry_by None false h c d pc = fetched_of h c d pc
 unfoldable pub admits_by : Turn → Head → Effect → ℕ → Entry
 admits_by (Hold st) h e lines = record { id = st; taken = 0; dummies = e.dummies }
 admits_by _ h e lines =
-    entry_by (pending_of e.csrs.priv_ e.csrs.mstatus e.csrs.mie lines) (is_due_in (ctl_of (values e.csrs)) e.dummies) h e.csrs e.dummies e.next_pc
+    entry_by (pending_of e.csrs.priv_ e.csrs.mstatus e.csrs.mie lines) (is_due_in (ctl_of (values e.csrs)) e.dummies)
+    h e.csrs e.dummies e.next_pc
 
 -- ---- 5. the cycle
 
@@ -380,7 +427,13 @@ cycle_with g e ans f x i = record {
   ans = ans;
   buffer = f;
   entry = admits_by g.turn (head_of f) e i.lines;
-  port = record { request = request_of f; enable = not (bit_and x.csrs.cpuctrl 1 == 0); fence = e.fence; rsp = i.irsp; look = i.look };
+  port = record {
+    request = request_of f;
+    enable = not (bit_and x.csrs.cpuctrl 1 == 0);
+    fence = e.fence;
+    rsp = i.irsp;
+    look = i.look;
+  };
 }
 
 -- the same, with the buffer that takes up the answer and the redirect
@@ -443,7 +496,8 @@ core_out_by c x i = record {
   write = c.effect.write;
   filling = filling_of x.words c.port;
   happens = c.effect.happens;
-  alerts = is_flipped i.irsp || is_flipped i.drsp || not (syndrome_of 32 7 i.rega == 0) || not (syndrome_of 32 7 i.regb == 0) || glitch_of x.csrs;
+  alerts = is_flipped i.irsp || is_flipped i.drsp || not (syndrome_of 32 7 i.rega == 0)
+      || not (syndrome_of 32 7 i.regb == 0) || glitch_of x.csrs;
 }
 
 -- what the core drives and shows in a cycle

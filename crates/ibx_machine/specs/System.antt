@@ -1,5 +1,6 @@
 -- The system: the core, its words, memory and the ports; a step of it, and a run. Our own rule.
-use Rattle.std.specs.Prelude.{ℕ, zero, suc, ◌+◌, ◌*◌, ◌/◌, ◌%◌, Bool, false, List, [], ◌∷◌, replicate, slice_index, slice_set, Option, Some, None}
+use Rattle.std.specs.Prelude.{ℕ, zero, suc, ◌+◌, ◌*◌, ◌/◌, ◌%◌, Bool, false, List, [], ◌∷◌, replicate, slice_index}
+use Rattle.std.specs.Prelude.{slice_set, Option, Some, None}
 use Rattle.ibx_isa.specs.declared.bus.Req.{Req}
 use Rattle.ibx_isa.specs.declared.event.Event.{Event}
 use Rattle.ibx_isa.specs.declared.event.Event.TheVariants.{Retire, Trap, Irq}
@@ -140,7 +141,8 @@ pub record Shown : Type 0 where
 
 -- both requests, the event with its cycle, and the alert, from the wires out
 abbrev pub shown_by : Out → ℕ → Shown
-shown_by o c = record { fetch = o.fetch; load_store = o.load_store; happens = happens_at c o.happens; alerts = o.alerts }
+shown_by o c =
+    record { fetch = o.fetch; load_store = o.load_store; happens = happens_at c o.happens; alerts = o.alerts }
 
 -- what the step of this system shows
 unfoldable pub shown_of : Setup → System → Shown

@@ -1,5 +1,6 @@
 -- What a run of the system comes to, against the history.
-use Rattle.std.specs.Prelude.{◌≡◌, ℕ, zero, suc, ◌+◌, ◌*◌, ◌<◌, ◌%◌, ◌^◌, false, map, slice_index, Option, Some, None, if◌then◌else◌}
+use Rattle.std.specs.Prelude.{◌≡◌, ℕ, zero, suc, ◌+◌, ◌*◌, ◌<◌, ◌%◌, ◌^◌, false, map, slice_index, Option, Some, None}
+use Rattle.std.specs.Prelude.{if◌then◌else◌}
 use Rattle.ibx_csr.specs.Fields.{values}
 use Rattle.ibx_elf.specs.Ram.{IsRamRange, IsInRam}
 use Rattle.ibx_elf.specs.Image.{image_byte}
@@ -41,11 +42,18 @@ staged_in id = if id.valid then Some (record { kind = id.kind; pc = id.pc; word 
 
 -- what the core's fields show
 abbrev pub shown_in : Core → Shown
-shown_in x = record { stage = staged_in x.id; f_addr = x.fetch.f_addr; next_pc = x.next_pc; csrs = values x.csrs; dummies = x.dummies }
+shown_in x = record {
+  stage = staged_in x.id;
+  f_addr = x.fetch.f_addr;
+  next_pc = x.next_pc;
+  csrs = values x.csrs;
+  dummies = x.dummies;
+}
 
 -- the requests on both ports in cycle c
 abbrev pub wires_in : Setup → ℕ → BusLine
-wires_in s c = record { fetch = (shown_of s (system_at s c)).fetch; load_store = (shown_of s (system_at s c)).load_store }
+wires_in s c =
+    record { fetch = (shown_of s (system_at s c)).fetch; load_store = (shown_of s (system_at s c)).load_store }
 
 -- ---- the theorem, for the cycles below 2 ^ 62; what is said of cycles alone stands in ibx_time's `Cycles`
 
@@ -65,15 +73,17 @@ IsQuiet s = (c : ℕ) → c < 2 ^ 62 → (shown_of s (system_at s c)).alerts ≡
 abbrev pub ShowsHistory : Setup → Type 0
 ShowsHistory s = (c : ℕ) → c < 2 ^ 62 → shown_in (system_at s c).main ≡ shown s c
 
--- the registers' words and the words of RAM are codewords of what the events left, and of the portions of the item in the stage that
--- are granted
+-- the registers' words and the words of RAM are codewords of what the events left, and of the portions of the item in
+-- the stage that are granted
 pub record HoldsWords (s : Setup) (c : ℕ) (x : System) (h y : Story) : Type 0 where
   pub regs : x.regs ≡ map (encode_of 32 7) h.state.regs
   pub words : (i : ℕ) → 4 * i < s.image.ram.size
-      → slice_index x.mem.words i ≡ encode_of 32 7 (read_bytes (memory_at (image_memory s.image) y.writes c) (s.image.ram.base + 4 * i) 4)
+      → slice_index x.mem.words i
+      ≡ encode_of 32 7 (read_bytes (memory_at (image_memory s.image) y.writes c) (s.image.ram.base + 4 * i) 4)
 
 -- before every cycle registers and RAM hold what the history left, by the words above
 abbrev pub HoldsValues : Setup → Type 0
 HoldsValues s =
     (c : ℕ) → c < 2 ^ 62
-    → HoldsWords s c (system_at s c) (told_below s c).story (with_item s (told_below s c).story (open_item s c (told_below s c).story))
+    → HoldsWords s c (system_at s c) (told_below s c).story
+    (with_item s (told_below s c).story (open_item s c (told_below s c).story))

@@ -20,7 +20,8 @@ pub fn same_cycle()
 
 /// A file without a fault for a range of RAM, and a plan whose masks are words, are a setup of a run.
 pub fn placed()
-    ensures { (file : List ℕ) (ram : Ram) (mul : MulKind) (plan : PlanValue) → IsRamRange ram → IsWellFormed file ram → All (λ b. b < 256) file → AreWords plan.changes → IsPlaced (of_file file ram mul plan) }
+    ensures { (file : List ℕ) (ram : Ram) (mul : MulKind) (plan : PlanValue) → IsRamRange ram → IsWellFormed file ram
+        → All (λ b. b < 256) file → AreWords plan.changes → IsPlaced (of_file file ram mul plan) }
 {}
 
 /// The system as it is opened for an image, a configuration and a plan is a first state of a run.

@@ -52,7 +52,8 @@ impl MulDiv {
         requires { left_of self.old ≢ 0 }
         ensures fields { self.new ≡ tick_of self.old }
         ensures left { left_of self.new + 1 ≡ left_of self.old }
-        ensures promise { (value : ℕ) → Finishes self.old (left_of self.old) value → Finishes self.new (left_of self.new) value }
+        ensures promise { (value : ℕ) → Finishes self.old (left_of self.old) value
+            → Finishes self.new (left_of self.new) value }
     {
         *self = pack(unpack(*self).step());
     }

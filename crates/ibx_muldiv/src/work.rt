@@ -1,5 +1,6 @@
 ghost use Rattle.std.specs.Prelude.{◌≡◌, ◌<◌, ◌%◌, ◌^◌};
-ghost use Rattle.ibx_muldiv.specs.Steps.{answer_of, begun_division, begun_product, divided, division_step, multiplied, negated, step_of, word_of};
+ghost use Rattle.ibx_muldiv.specs.Steps.{answer_of, begun_division, begun_product, divided, division_step, multiplied};
+ghost use Rattle.ibx_muldiv.specs.Steps.{negated, step_of, word_of};
 
 use crate::operands::Operands;
 use ibx_isa::MulKind;

@@ -1,4 +1,5 @@
-ghost use Rattle.std.specs.Prelude.{◌≡◌, ◌<◌, ◌^◌, ℕ, Some, None, IfSome, IfNone, false, nat_le, bit_and, ◌==◌, ◌&&◌, if◌then◌else◌};
+ghost use Rattle.std.specs.Prelude.{◌≡◌, ◌<◌, ◌^◌, ℕ, Some, None, IfSome, IfNone, false, nat_le, bit_and, ◌==◌, ◌&&◌};
+ghost use Rattle.std.specs.Prelude.{if◌then◌else◌};
 ghost use Rattle.ibx_bits.specs.Platform.{interrupt_lines};
 ghost use Rattle.ibx_plan.specs.Sites.{fitting, site_fits};
 ghost use Rattle.ibx_plan.specs.Line.{number_at, site_of, entry_of, entry_fits, in_range, line_entry};
@@ -33,7 +34,8 @@ const LAST_CHANGE: u64 = 1_000_000_000;
 #[tactic(auto, using(crate::proofs::Narrow::narrow_field, crate::proofs::Narrow::narrow_wire, crate::proofs::Narrow::narrow_output), unfolding(crate::specs::Line::site_of, crate::specs::Sites::site_fits, crate::specs::Sites::ranges))]
 fn site_at(words: &Words, target: Target) -> Option<Site>
     ensures some { IfSome result (λ site. site ≡ site_of target (number_at words.now)) }
-    ensures none { IfNone result ((ram_words : ℕ) → ram_words < 2 ^ 32 → site_fits ram_words (site_of target (number_at words.now)) ≡ false) }
+    ensures none { IfNone result ((ram_words : ℕ) → ram_words < 2 ^ 32
+        → site_fits ram_words (site_of target (number_at words.now)) ≡ false) }
 {
     Some(match target {
         Target::Main(field) => Site::Main {
@@ -89,7 +91,8 @@ fn site_of(words: &Words, target: Target, ram_words: u32) -> Option<Site>
 }
 
 fn wait_of(grant: u64, answer: u64) -> Option<Wait>
-    ensures { result ≡ (if nat_le grant 255 && nat_le answer 255 then Some (record { grant = grant; answer = answer }) else None) }
+    ensures { result ≡ (if nat_le grant 255 && nat_le answer 255
+        then Some (record { grant = grant; answer = answer }) else None) }
 {
     if grant <= 255 && answer <= 255 {
         Some(Wait {
@@ -102,7 +105,8 @@ fn wait_of(grant: u64, answer: u64) -> Option<Wait>
 }
 
 fn change_of(cycle: u64, mask: u64) -> Option<Change>
-    ensures { result ≡ (if nat_le cycle 1000000000 && (bit_and mask interrupt_lines == mask) then Some (record { cycle = cycle; mask = mask }) else None) }
+    ensures { result ≡ (if nat_le cycle 1000000000 && (bit_and mask interrupt_lines == mask)
+        then Some (record { cycle = cycle; mask = mask }) else None) }
 {
     if cycle <= LAST_CHANGE && mask & INTERRUPT_LINES as u64 == mask {
         Some(Change {

@@ -27,7 +27,12 @@ impl Model for Plan {
 
     ghost Value = { PlanValue };
 
-    ghost view = { λ p. record { iwaits = p.iwaits.items; dwaits = p.dwaits.items; changes = p.changes; flip = p.flip } };
+    ghost view = { λ p. record {
+      iwaits = p.iwaits.items;
+      dwaits = p.dwaits.items;
+      changes = p.changes;
+      flip = p.flip;
+    } };
 }
 
 impl Plan {

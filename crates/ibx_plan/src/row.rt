@@ -1,5 +1,6 @@
 ghost use Rattle.std.specs.Prelude.{◌≡◌, length};
-ghost use Rattle.ibx_plan.specs.Line.{flip_row, named, target_of, row_of, is_skipped, are_numbers, site_places, number_places};
+ghost use Rattle.ibx_plan.specs.Line.{flip_row, named, target_of, row_of, is_skipped, are_numbers, site_places};
+ghost use Rattle.ibx_plan.specs.Line.{number_places};
 
 use crate::names::{field_number, output_number, wire_number};
 use crate::number::is_number;

@@ -1,6 +1,9 @@
 ghost use Rattle.std.specs.Prelude.{◌≡◌, ℕ, ◌%◌, ◌^◌, ◌<◌, ◌≤◌, drop, slice_get, None, IfSome};
-ghost use Rattle.ibx_prefetch.specs.Buffer.{entry_of, fetch_after_answer, fetch_reset, head_of, held_parcel, held_word, is_turn, next_addr, popped, prefetch_next, pushed, received, request_of, requested, took, turned};
-ghost use Rattle.ibx_prefetch.specs.Parcels.{IsInOrder, IsWithin, Issues, KeepsOrder, ShowsInOrder, offered, parcels_of, ready_of};
+ghost use Rattle.ibx_prefetch.specs.Buffer.{entry_of, fetch_after_answer, fetch_reset, head_of, held_parcel};
+ghost use Rattle.ibx_prefetch.specs.Buffer.{held_word, is_turn, next_addr, popped, prefetch_next, pushed, received};
+ghost use Rattle.ibx_prefetch.specs.Buffer.{request_of, requested, took, turned};
+ghost use Rattle.ibx_prefetch.specs.Parcels.{IsInOrder, IsWithin, Issues, KeepsOrder, ShowsInOrder, offered};
+ghost use Rattle.ibx_prefetch.specs.Parcels.{parcels_of, ready_of};
 
 /// The prefetch buffer: the word request that is outstanding, and the words whose parcels aren't all taken yet.
 #[derive(Clone, Copy, Debug, PartialEq, Eq)]
@@ -106,15 +109,16 @@ impl Prefetch {
     pub fn advance(&mut self, ans: &WordAns, redirect: Option<u32>, taken: u8)
         ensures fields { self.new ≡ prefetch_next ans.now redirect taken self.old }
         ensures within { IsWithin self.old → IsWithin self.new }
-        ensures queue { self.old.buf_count ≤ 3 → taken ≤ 2 → parcels_of self.new ≡ drop taken (offered ans.now redirect self.old) }
+        ensures queue { self.old.buf_count ≤ 3 → taken ≤ 2
+            → parcels_of self.new ≡ drop taken (offered ans.now redirect self.old) }
         ensures order { KeepsOrder ans.now redirect taken self.old self.new }
     {
         self.hear(ans, redirect);
         self.end(taken);
     }
 
-    /// The first half of a cycle, in place: its redirect to the byte address `redirect`, if there is one, and its answer
-    /// `ans`.
+    /// The first half of a cycle, in place: its redirect to the byte address `redirect`, if there is one, and its
+    /// answer `ans`.
     #[inline(always)]
     pub fn hear(&mut self, ans: &WordAns, redirect: Option<u32>)
         ensures fields { self.new ≡ fetch_after_answer ans.now redirect self.old }
@@ -125,8 +129,8 @@ impl Prefetch {
         self.receive(ans, dropped);
     }
 
-    /// The second half of a cycle, in place: its word request goes out, and the first `taken`, 0 to 2, of the parcels that
-    /// are held leave the buffer.
+    /// The second half of a cycle, in place: its word request goes out, and the first `taken`, 0 to 2, of the parcels
+    /// that are held leave the buffer.
     #[inline(always)]
     pub fn end(&mut self, taken: u8)
         ensures fields { self.new ≡ took taken (requested (request_of self.old) self.old) }

@@ -83,7 +83,8 @@ fn check(rt: &impl Abort, entry: u32, turns: &[Turn]) -> Prefetch {
     unit
 }
 
-// Words of LUI, ADDI and SW, which answer a cycle after their request. Then nothing is taken until three words are held.
+// Words of LUI, ADDI and SW, which answer a cycle after their request. Then nothing is taken until three words are
+// held.
 #[test]
 fn words_without_waits(rt: HostRuntime) {
     let turns = [
@@ -105,7 +106,8 @@ fn words_without_waits(rt: HostRuntime) {
     );
 }
 
-// JAL redirects in the cycle in which the word after it answers. That word is dropped, and the target requested at once.
+// JAL redirects in the cycle in which the word after it answers. That word is dropped, and the target requested at
+// once.
 #[test]
 fn word_of_a_redirect(rt: HostRuntime) {
     let turns = [

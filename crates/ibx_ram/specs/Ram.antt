@@ -1,5 +1,6 @@
 -- Memories of codewords, as lists. Our own rule.
-use Rattle.std.specs.Prelude.{◌≡◌, ℕ, ◌+◌, ◌*◌, ◌<◌, ◌≤◌, ◌^◌, ◌==◌, if◌then◌else◌, List, [], ◌∷◌, All, length, replicate, slice_index, slice_set, bit_xor}
+use Rattle.std.specs.Prelude.{◌≡◌, ℕ, ◌+◌, ◌*◌, ◌<◌, ◌≤◌, ◌^◌, ◌==◌, if◌then◌else◌, List, [], ◌∷◌, All, length}
+use Rattle.std.specs.Prelude.{replicate, slice_index, slice_set, bit_xor}
 use Rattle.ibx_secded.specs.Code.{IsCode, encode_of}
 
 -- this many words, each the codeword of 0

@@ -1,4 +1,5 @@
-ghost use Rattle.std.specs.Prelude.{◌≡◌, ◌≢◌, ◌<◌, ◌≤◌, ◌^◌, ◌+◌, ◌*◌, ◌/◌, ℕ, IfOk, length, slice_index, slice_set, bit_xor};
+ghost use Rattle.std.specs.Prelude.{◌≡◌, ◌≢◌, ◌<◌, ◌≤◌, ◌^◌, ◌+◌, ◌*◌, ◌/◌, ℕ, IfOk, length, slice_index, slice_set};
+ghost use Rattle.std.specs.Prelude.{bit_xor};
 ghost use Rattle.ibx_secded.specs.Code.{IsCode, payload_of, rewrite_of};
 ghost use Rattle.ibx_ram.specs.Ram.{empty_of, flip_of};
 

@@ -1,7 +1,8 @@
 -- Codes that tell one or two flipped bits, by their check matrix, column by column.
 -- Source: M. Y. Hsiao, "A Class of Optimal Minimum Odd-weight-column SEC-DED Codes" (1970); the order of the columns
 -- and the constant are this project's own rule.
-use Rattle.std.specs.Prelude.{ℕ, zero, suc, ◌≡◌, ◌+◌, ◌-◌, ◌*◌, ◌/◌, ◌%◌, ◌^◌, ◌≤◌, List, ◌++◌, filter, ◌==◌, slice_index, bit_xor}
+use Rattle.std.specs.Prelude.{ℕ, zero, suc, ◌≡◌, ◌+◌, ◌-◌, ◌*◌, ◌/◌, ◌%◌, ◌^◌, ◌≤◌, List, ◌++◌, filter, ◌==◌}
+use Rattle.std.specs.Prelude.{slice_index, bit_xor}
 use Rattle.std.specs.Int.{bit_at}
 use Rattle.std.specs.List.{range_with_len}
 
@@ -15,7 +16,8 @@ unfoldable pub numbers_of_weight : ℕ → ℕ → List ℕ
 unfolding weight
 numbers_of_weight bits w = filter (λ n. weight bits n == w) (range_with_len 0 (2 ^ bits))
 
--- every column of the check matrix of this height: the odd weights from 3 on, the least weight first. Heights are at most 8
+-- every column of the check matrix of this height: the odd weights from 3 on, the least weight first. Heights are at
+-- most 8
 unfoldable pub columns : ℕ → List ℕ
 unfolding numbers_of_weight
 columns height = numbers_of_weight height 3 ++ numbers_of_weight height 5 ++ numbers_of_weight height 7
@@ -53,18 +55,21 @@ IsCodeword payload_bits height word =
 unfoldable pub syndrome_of : ℕ → ℕ → ℕ → ℕ
 unfolding checks
 syndrome_of payload_bits height word =
-    bit_xor (bit_xor (word / 2 ^ payload_bits) (constant height)) (checks height payload_bits (payload_of payload_bits word))
+    bit_xor (bit_xor (word / 2 ^ payload_bits) (constant height))
+    (checks height payload_bits (payload_of payload_bits word))
 
 -- the codeword of a payload
 unfoldable pub encode_of : ℕ → ℕ → ℕ → ℕ
 unfolding checks
-encode_of payload_bits height value = bit_xor (checks height payload_bits value) (constant height) * 2 ^ payload_bits + value
+encode_of payload_bits height value =
+    bit_xor (checks height payload_bits value) (constant height) * 2 ^ payload_bits + value
 
 -- the word with this payload and the syndrome of the old word
 unfoldable pub rewrite_of : ℕ → ℕ → ℕ → ℕ → ℕ
 unfolding checks syndrome_of
 rewrite_of payload_bits height old value =
-    bit_xor (bit_xor (syndrome_of payload_bits height old) (constant height)) (checks height payload_bits value) * 2 ^ payload_bits + value
+    bit_xor (bit_xor (syndrome_of payload_bits height old) (constant height)) (checks height payload_bits value)
+    * 2 ^ payload_bits + value
 
 -- from 4 to 8 check bits
 pub record IsHeight (height : ℕ) : Type 0 where

@@ -9,7 +9,8 @@ mod tables;
 mod tests;
 
 ghost use Rattle.std.specs.Prelude.{◌≡◌, ◌≢◌, ◌↔◌, ◌+◌, ◌-◌, ◌*◌, ◌<◌, ◌≤◌, ◌^◌, ◌%◌, ℕ, length, slice_index, bit_xor};
-ghost use Rattle.ibx_secded.specs.Code.{IsCode, IsCodeword, IsHeight, column, columns, checks, encode_of, syndrome_of, payload_of, rewrite_of, constant as constant_of};
+ghost use Rattle.ibx_secded.specs.Code.{IsCode, IsCodeword, IsHeight, column, columns, checks, encode_of, syndrome_of};
+ghost use Rattle.ibx_secded.specs.Code.{payload_of, rewrite_of, constant as constant_of};
 
 use crate::tables::{check_22, check_32};
 
@@ -149,7 +150,8 @@ impl<const K: usize, const R: usize> Code<K, R> {
         ensures payload_flip { (b : ℕ) → b < K → syndrome_of K R (bit_xor word (2 ^ b)) ≡ bit_xor result (column R b) }
         ensures check_flip { (b : ℕ) → b < R → syndrome_of K R (bit_xor word (2 ^ (K + b))) ≡ bit_xor result (2 ^ b) }
         ensures one_flip { (b : ℕ) → b < K + R → syndrome_of K R (bit_xor word (2 ^ b)) ≢ result }
-        ensures two_flips { (a b : ℕ) → a < K + R → b < K + R → a ≢ b → syndrome_of K R (bit_xor (bit_xor word (2 ^ a)) (2 ^ b)) ≢ result }
+        ensures two_flips { (a b : ℕ) → a < K + R → b < K + R → a ≢ b
+            → syndrome_of K R (bit_xor (bit_xor word (2 ^ a)) (2 ^ b)) ≢ result }
     {
         (word >> K) ^ constant(R) ^ Self::check(Self::payload(word))
     }

@@ -34,8 +34,8 @@ words_from image addr (suc n) = image_word image addr ∷ words_from image (addr
 abbrev pub image_words : Placed → List ℕ
 image_words image = words_from image image.ram.base (image.ram.size / 4)
 
--- the words round the cores at reset, with the codewords of these words in the memory and with these waits: every other word is the
--- codeword of 0
+-- the words round the cores at reset, with the codewords of these words in the memory and with these waits: every
+-- other word is the codeword of 0
 abbrev pub first_place : List ℕ → ℕ → Settings → List Wait → List Wait → Place
 first_place words base settings iwaits dwaits = record {
   settings = settings;
@@ -63,16 +63,18 @@ first_with entry place = record {
 -- the first state of a run of an image, with a configuration and a plan
 unfoldable pub first : Placed → Config → PlanValue → Whole State
 first image config plan =
-    first_with image.entry (first_place (image_words image) image.ram.base (settings_of config plan) plan.iwaits plan.dwaits)
+    first_with image.entry
+    (first_place (image_words image) image.ram.base (settings_of config plan) plan.iwaits plan.dwaits)
 
 -- the words that a system's memory holds, without their check bits
 abbrev pub words_in : Whole State → List ℕ
 words_in w = map (λ word. payload_of 32 word) w.place.memory.words
 
--- A system is as it was opened: in the first state for the words that its memory holds and the entry that is main's next address,
--- which is even and lies in RAM.
+-- A system is as it was opened: in the first state for the words that its memory holds and the entry that is main's
+-- next address, which is even and lies in RAM.
 pub record IsAsNew (w : Whole State) : Type 0 where
-  pub state : w ≡ first_with w.main.next_pc (first_place (words_in w) w.place.memory.base w.place.settings w.place.iport.waits w.place.dport.waits)
+  pub state : w ≡ first_with w.main.next_pc
+      (first_place (words_in w) w.place.memory.base w.place.settings w.place.iport.waits w.place.dport.waits)
   pub even : w.main.next_pc % 2 ≡ 0
   pub from_base : w.place.memory.base ≤ w.main.next_pc
   pub before_end : w.main.next_pc < w.place.memory.base + 4 * length w.place.memory.words

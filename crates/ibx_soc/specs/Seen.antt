@@ -24,7 +24,8 @@ place_of m = record {
 
 -- the whole system
 abbrev pub whole_in : Paired State In Out → Place → Whole State
-whole_in p place = record { main = p.main; shadow = p.shadow; older = p.older; newer = p.newer; age = p.age; place = place }
+whole_in p place =
+    record { main = p.main; shadow = p.shadow; older = p.older; newer = p.newer; age = p.age; place = place }
 
 -- the same from the pair of cores
 abbrev pub whole_with : Pair State In Out → Place → Whole State

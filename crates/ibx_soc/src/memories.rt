@@ -165,7 +165,8 @@ impl<'p> Memories<'p> {
         mul: MulKind,
         plan: &'p Plan,
     ) -> Result<Memories<'p>, NoMemory>
-        ensures place { IfOk result (λ m. place_of m ≡ first_place (image_words image.now) image.now.ram.base (record { mul = mul_number mul; changes = plan.now.changes }) plan.now.iwaits plan.now.dwaits) }
+        ensures place { IfOk result (λ m. place_of m ≡ first_place (image_words image.now) image.now.ram.base
+            (record { mul = mul_number mul; changes = plan.now.changes }) plan.now.iwaits plan.now.dwaits) }
         ensures sizes { IfOk result Sizes }
         ensures small { IfOk result (λ _. All (λ word. word < 2 ^ 32) (image_words image.now)) }
         ensures size { IfOk result (λ m. 4 * length m.memory.words ≡ image.now.ram.size) }

@@ -56,7 +56,8 @@ fn flip_delay(pair: &mut Pair<Core>, slot: u8, wire: u8, bit: u8)
     requires slot { slot < slots wire }
     requires bit { bit < width_in wires wire }
     requires age { (seen pair.old).age < 4 }
-    ensures made { (place : Place) → whole_with pair.new place ≡ delay_flip core_parts (wire == 36) (slot == 0) wire bit (whole_with pair.old place) }
+    ensures made { (place : Place) → whole_with pair.new place ≡ delay_flip core_parts (wire == 36)
+        (slot == 0) wire bit (whole_with pair.old place) }
     ensures age { (seen pair.new).age < 4 }
 {
     if wire == AGE {
@@ -79,8 +80,8 @@ fn flipped_age(age: u8, bit: u8) -> u8
 }
 
 impl<'p> Soc<'p> {
-    /// The system at reset, with an image in RAM; the configuration's RAM is the image's. The plan's flip isn't made. An
-    /// `Err` means that there was no memory.
+    /// The system at reset, with an image in RAM; the configuration's RAM is the image's. The plan's flip isn't made.
+    /// An `Err` means that there was no memory.
     #[tactic(auto, unfolding(crate::specs::First::first))]
     pub fn new(
         alloc: Global,
@@ -123,8 +124,8 @@ impl<'p> Soc<'p> {
         Cycle::of(at, told, &self.out)
     }
 
-    /// Changes one bit, and all else stays. False exactly where there is no such bit, and then nothing changed. A change
-    /// of an output word is made in the next cycle; a later one before that cycle takes its place.
+    /// Changes one bit, and all else stays. False exactly where there is no such bit, and then nothing changed. A
+    /// change of an output word is made in the next cycle; a later one before that cycle takes its place.
     #[tactic(auto, unfolding(ibx_flips::specs::Flips::flip, ibx_flips::specs::Core::core_parts, ibx_plan::specs::Sites::site_fits, ibx_plan::specs::Sites::ranges), using(crate::proofs::Bits::field_inside))]
     pub fn flip(&mut self, site: &Site) -> bool
         ensures fits { result ≡ site_fits (length self.old.place.memory.words) site.now }

@@ -1,5 +1,6 @@
 ghost use Rattle.std.specs.Prelude.{◌≡◌, ◌<◌, ◌^◌, length};
-ghost use Rattle.ibx_flips.specs.System.{registers_after, tags_after, way_after, writes_way, put_if, tag_index, line_index};
+ghost use Rattle.ibx_flips.specs.System.{registers_after, tags_after, way_after, writes_way, put_if, tag_index};
+ghost use Rattle.ibx_flips.specs.System.{line_index};
 
 use ibx_core::Out;
 use ibx_ram::{CodedRam, RegFile};

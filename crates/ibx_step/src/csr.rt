@@ -24,7 +24,8 @@ impl Machine {
     #[tactic(auto, unfolding(ibx_arch::specs::Effects::csr_access, ibx_csr::specs::Values::csr_can_write, ibx_csr::specs::Values::csr_tick))]
     pub(crate) fn csr(&mut self, access: CsrAccess, word: u32, next_pc: u32, lines: u32) -> Done
         requires { access.rd < 32 }
-        ensures left { left_in result self.new ≡ csr_access (state_of self.old) access.op access.rd access.src access.source access.addr word next_pc lines }
+        ensures left { left_in result self.new ≡ csr_access (state_of self.old) access.op access.rd access.src
+            access.source access.addr word next_pc lines }
         ensures place { KeepsPlace self.old self.new }
         ensures register { HasRegister result }
     {

@@ -56,7 +56,8 @@ impl Machine {
     pub fn step(&mut self, cycle: u64) -> Option<Event>
         requires cycle { cycle < 2 ^ 62 }
         requires aligned { IsAligned (state_of self.old) }
-        ensures stepped { Steps (state_of self.old) (present_step (state_of self.old) cycle) result (state_of self.new) }
+        ensures stepped { Steps (state_of self.old) (present_step (state_of self.old) cycle) result
+            (state_of self.new) }
         ensures refused { result ≡ None → self.new ≡ self.old }
         ensures aligned { IsAligned (state_of self.new) }
         ensures printable { IfSome result IsPrintable }
@@ -75,7 +76,8 @@ impl Machine {
     pub fn take(&mut self, choice: Choice, cycle: u64, lines: u32) -> Event
         requires cycle { cycle < 2 ^ 62 }
         requires aligned { IsAligned (state_of self.old) }
-        ensures stepped { stepped_to result self.new ≡ step_with (λ _. lines) (state_of self.old) (choice_of choice) cycle }
+        ensures stepped { stepped_to result self.new ≡ step_with (λ _. lines) (state_of self.old) (choice_of choice)
+            cycle }
         ensures aligned { IsAligned (state_of self.new) }
         ensures printable { IsPrintable result }
     {
@@ -123,7 +125,8 @@ impl Machine {
     fn carry_out(&mut self, prepared: Prepared, cycle: u64, lines: u32) -> Event
         requires cycle { cycle < 2 ^ 62 }
         requires sound { IsSound prepared }
-        ensures stepped { stepped_to result self.new ≡ carried_out (at_cycle (state_of self.old) cycle) cycle lines prepared }
+        ensures stepped { stepped_to result self.new ≡ carried_out (at_cycle (state_of self.old) cycle) cycle lines
+            prepared }
         ensures printable { IsPrintable result }
     {
         self.move_to(cycle);
@@ -163,7 +166,8 @@ impl Machine {
         requires cycle { cycle < 2 ^ 62 }
         requires register { HasRegister done }
         requires word { IsWordOrHalf word }
-        ensures stepped { stepped_to result self.new ≡ finished self.old.pc self.old.regs cycle word ops (left_in done self.old) }
+        ensures stepped { stepped_to result self.new ≡ finished self.old.pc self.old.regs cycle word ops
+            (left_in done self.old) }
         ensures printable { IsPrintable result }
     {
         let pc = self.pc;

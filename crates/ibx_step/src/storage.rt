@@ -61,7 +61,8 @@ impl Storage {
 
     /// The parcel of 16 bits at a byte address.
     pub fn parcel(&self, addr: u32) -> u16
-        ensures { result ≡ read_byte (memory_of self.now) addr + 256 * read_byte (memory_of self.now) ((addr + 1) % 2 ^ 32) }
+        ensures { result ≡ read_byte (memory_of self.now) addr + 256 * read_byte (memory_of self.now)
+            ((addr + 1) % 2 ^ 32) }
     {
         self.byte(addr) as u16 + 256 * self.byte(addr.wrapping_add(1)) as u16
     }
@@ -120,7 +121,8 @@ impl Storage {
     // Stores one portion of an access.
     fn put(&mut self, addr: u32, size: u8, value: u32, second: bool)
         requires { size ≤ 4 }
-        ensures { memory_of self.new ≡ with_bytes (memory_of self.old) addr (portion_from addr size second) (portion_to addr size second) value }
+        ensures { memory_of self.new ≡ with_bytes (memory_of self.old) addr (portion_from addr size second)
+            (portion_to addr size second) value }
     {
         let (enables, bits) = lanes(addr, size, value, second);
         let start = word_start(addr, second);
@@ -166,7 +168,8 @@ fn merge(word: u32, enables: u8, bits: u32) -> u32
 // The words of an image.
 fn image_words(alloc: Global, image: &Image<'_>) -> Result<Vec<u32>, NoMemory>
     ensures count { IfOk result (λ words. 4 * length words.items ≡ image.now.ram.size) }
-    ensures words { IfOk result (λ words. (k : ℕ) → 4 * k < image.now.ram.size → (j : ℕ) → j < 4 → word_byte (slice_index words.items k) j ≡ image_byte image.now (image.now.ram.base + 4 * k + j)) }
+    ensures words { IfOk result (λ words. (k : ℕ) → 4 * k < image.now.ram.size → (j : ℕ) → j < 4
+        → word_byte (slice_index words.items k) j ≡ image_byte image.now (image.now.ram.base + 4 * k + j)) }
 {
     let count = (image.ram().size / 4) as usize;
     let mut words = vec![in alloc; 0; count]?;

@@ -1,5 +1,6 @@
 -- What the program answers to the bytes of its files, and the words of its contract (the statuses are our own rule).
-use Rattle.std.specs.Prelude.{⊤, ◌≡◌, ℕ, ◌/◌, Bool, true, false, ◌==◌, nat_lt, List, [], ◌∷◌, length, Option, Some, None, is_some, Result, Ok, Err, if◌then◌else◌, IsSome, IsTrue, ◌⊎◌}
+use Rattle.std.specs.Prelude.{⊤, ◌≡◌, ℕ, ◌/◌, Bool, true, false, ◌==◌, nat_lt, List, [], ◌∷◌, length, Option, Some}
+use Rattle.std.specs.Prelude.{None, is_some, Result, Ok, Err, if◌then◌else◌, IsSome, IsTrue, ◌⊎◌}
 use Rattle.std.specs.List.{list_any}
 use Rattle.ibx_base.specs.Counts.{Rose}
 use Rattle.ibx_base.specs.Files.{Contents, IsContent}
@@ -57,7 +58,8 @@ file_limit = 33554432
 abbrev pub plan_limit : ℕ
 plan_limit = 4194304
 
--- the answer to a file of this name: whether its bytes are too long, then their first fault, and else what its image answers
+-- the answer to a file of this name: whether its bytes are too long, then their first fault, and else what its image
+-- answers
 unfoldable pub file_answer_by : List ℕ → Bool → Option ElfFault → Answer → Answer
 file_answer_by name true fault ran = refusal 5 (too_long_line name)
 file_answer_by name false (Some fault) ran = refusal 5 (fault_line name fault)
@@ -76,7 +78,8 @@ plan_answer_by name false (Ok plan) followed = followed plan
 
 -- the same to its text, which is read within these bounds
 abbrev pub plan_answer : List ℕ → Bounds → (PlanValue → Answer) → List ℕ → Answer
-plan_answer name bounds followed text = plan_answer_by name (nat_lt plan_limit (length text)) (plan_of bounds text) followed
+plan_answer name bounds followed text =
+    plan_answer_by name (nat_lt plan_limit (length text)) (plan_of bounds text) followed
 
 -- ---- `run`
 
@@ -153,7 +156,8 @@ bounds_of task options = record { ram_words = options.ram.size / 4; flips = flip
 -- the answer of a command to the text of its plan and the bytes of its file: that to the plan comes first
 unfoldable pub planned_answer : Task → List ℕ → List ℕ → Options → List ℕ → List ℕ → Answer
 planned_answer task name plan options text bytes =
-    plan_answer plan (bounds_of task options) (λ planned. file_answer name options.ram (done task options planned) bytes) text
+    plan_answer plan (bounds_of task options)
+    (λ planned. file_answer name options.ram (done task options planned) bytes) text
 
 -- the answer of `run` without a plan to the bytes of its file
 abbrev pub plain_answer : List ℕ → Options → List ℕ → Answer
@@ -185,7 +189,8 @@ written_answer text = record { code = 0; text = text; line = []; seal = 0 }
 abbrev pub text_limit : ℕ
 text_limit = 4194304
 
--- the answer to a text of this name: whether it is too long, then its first refused line, and else the file around its code
+-- the answer to a text of this name: whether it is too long, then its first refused line, and else the file around its
+-- code
 unfoldable pub asm_answer_by : List ℕ → Bool → Result (List ℕ) AsmFault → Answer
 asm_answer_by name true code = refusal 12 (text_too_long_line name)
 asm_answer_by name false (Err fault) = refusal 12 (asm_fault_line name fault)
@@ -209,11 +214,12 @@ dis_answer name ram bytes = file_answer name ram listed bytes
 abbrev pub IsAnswerTo : Option Contents → List ℕ → (List ℕ → Answer) → Answer → Type 0
 IsAnswerTo told name answer_to answer = (bytes : List ℕ) × (IsContent told name bytes × (answer ≡ answer_to bytes))
 
--- an answer is that of a command to this text of its plan and the bytes of its file; where the plan is refused, which is
--- status 6, the file isn't read, and any bytes do
+-- an answer is that of a command to this text of its plan and the bytes of its file; where the plan is refused, which
+-- is status 6, the file isn't read, and any bytes do
 abbrev pub IsPlannedBy : Option Contents → Task → List ℕ → List ℕ → Options → List ℕ → Answer → Type 0
 IsPlannedBy told task name plan options text answer =
-    (bytes : List ℕ) × (((answer.code ≡ 6) ⊎ IsContent told name bytes) × (answer ≡ planned_answer task name plan options text bytes))
+    (bytes : List ℕ) × (((answer.code ≡ 6) ⊎ IsContent told name bytes)
+    × (answer ≡ planned_answer task name plan options text bytes))
 
 -- the same, and the text is that of its plan
 abbrev pub IsPlanned : Option Contents → Task → List ℕ → List ℕ → Options → Answer → Type 0
@@ -351,8 +357,8 @@ pub record IsCutShort (answer : Answer) (before after : Option (List ℕ)) : Typ
   pub runs : IsOneOf (0 ∷ 1 ∷ 8 ∷ 9 ∷ []) answer.code
   pub text : TookPrefix before answer.text after
 
--- The output took the text of a verdict in which the bus doesn't differ without an alert, which comes at most two cycles after
--- the first difference, and the status says whether there is one.
+-- The output took the text of a verdict in which the bus doesn't differ without an alert, which comes at most two
+-- cycles after the first difference, and the status says whether there is one.
 pub record Notices (code : ℕ) (before after : Option (List ℕ)) : Type 0 where
   pub verdict : Verdict
   pub noticed : IsNoticed verdict

@@ -119,16 +119,20 @@ abbrev pub IfInjecting : Task → Type 0 → Type 0
 IfInjecting Run P = ⊤
 IfInjecting Inject P = P
 
--- What a call that has one of these answers leaves of the output, by how it ends: the whole text, a prefix of it where a
--- fault was counted, and nothing where nothing ran.
-pub record Prints {K : Type 0} (taken : K → Option (List ℕ)) (faults : K → ℕ) (Answers : Answer → Type 0) (outcome : Outcome) (before after : K) : Type 0 where
-  pub answered : IfAnswered outcome ((answer : Answer) × (Answers answer × Settles answer outcome (taken before) (taken after)))
+-- What a call that has one of these answers leaves of the output, by how it ends: the whole text, a prefix of it where
+-- a fault was counted, and nothing where nothing ran.
+pub record Prints {K : Type 0} (taken : K → Option (List ℕ)) (faults : K → ℕ) (Answers : Answer → Type 0)
+    (outcome : Outcome) (before after : K) : Type 0 where
+  pub answered : IfAnswered outcome
+      ((answer : Answer) × (Answers answer × Settles answer outcome (taken before) (taken after)))
   pub write_fault : IfUnwritten outcome (Rose (faults before) (faults after))
-  pub cut_short : IfUnwritten outcome ((answer : Answer) × (Answers answer × IsCutShort answer (taken before) (taken after)))
+  pub cut_short : IfUnwritten outcome
+      ((answer : Answer) × (Answers answer × IsCutShort answer (taken before) (taken after)))
   pub silent : UnlessRan outcome (after ≡ before)
 
 -- what a call that reads files of these names leaves of the files
-pub record Reads {F : Type 0} (contents : F → Option Contents) (begun : F → Option Begun) (faults misses : F → ℕ) (names : List (List ℕ)) (outcome : Outcome) (before after : F) : Type 0 where
+pub record Reads {F : Type 0} (contents : F → Option Contents) (begun : F → Option Begun) (faults misses : F → ℕ)
+    (names : List (List ℕ)) (outcome : Outcome) (before after : F) : Type 0 where
   pub kept : contents after ≡ contents before
   pub misses_stay : AreThere (contents before) names → misses after ≡ misses before
   pub read_fault : IfUnread outcome (λ _. Rose (faults before) (faults after))

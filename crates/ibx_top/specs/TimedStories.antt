@@ -1,5 +1,5 @@
--- The story of a run of the two-stage core: the events of the time equations below a budget of cycles, up to the halting
--- store. The budget and the halting store are our own rules.
+-- The story of a run of the two-stage core: the events of the time equations below a budget of cycles, up to the
+-- halting store. The budget and the halting store are our own rules.
 use Rattle.std.specs.Prelude.{ℕ, Bool, List}
 use Rattle.std.specs.List.{list_any}
 use Rattle.ibx_isa.specs.declared.event.Event.{Event}

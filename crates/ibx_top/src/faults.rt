@@ -1,7 +1,9 @@
 //! What is printed of a file, a plan or a text that is refused.
 ghost use Rattle.std.specs.Prelude.{◌≡◌, ◌+◌, ◌≤◌, ◌++◌, flat_map, length, codes};
 ghost use Rattle.arrayvec.specs.ArrayString.{array_string_len};
-ghost use Rattle.ibx_top.specs.ErrLines.{spaced, fault_number as fault_number_lem, fault_indices, fault_text as fault_text_lem, kind_text as kind_text_lem, plan_fault_text as plan_fault_text_lem};
+ghost use Rattle.ibx_top.specs.ErrLines.{spaced, fault_number as fault_number_lem, fault_indices};
+ghost use Rattle.ibx_top.specs.ErrLines.{fault_text as fault_text_lem, kind_text as kind_text_lem};
+ghost use Rattle.ibx_top.specs.ErrLines.{plan_fault_text as plan_fault_text_lem};
 ghost use Rattle.ibx_top.specs.ErrLines.{asm_kind_text as asm_kind_text_lem, asm_fault_text as asm_fault_text_lem};
 
 use arrayvec::ArrayString;

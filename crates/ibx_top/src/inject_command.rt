@@ -56,7 +56,8 @@ pub(crate) fn inject_image<'w, K: Sink>(
     requires flip { IfSome plan.now.flip (FlipFits (bounds_of Inject options)) }
     ensures past { IsPastReading result }
     ensures noticed { EndsNoticed result (K.taken out.old) (K.taken out.new) }
-    ensures prints { Prints K.taken K.faults (λ answer. answer ≡ injected_by options plan.now image.now) result out.old out.new }
+    ensures prints { Prints K.taken K.faults (λ answer. answer ≡ injected_by options plan.now image.now) result out.old
+        out.new }
 {
     let Ok(mut clean) = open_system(alloc, image, options, plan) else {
         return Outcome::OutOfMemory;

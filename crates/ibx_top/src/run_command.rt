@@ -26,7 +26,8 @@ pub(crate) fn run_image<'w, K: Sink>(
     requires range { IsInRange options }
     requires placed { IsPlaced (setup_of options plan.now image.now) }
     ensures past { IsPastReading result }
-    ensures prints { Prints K.taken K.faults (λ answer. answer ≡ ran_by options plan.now image.now) result out.old out.new }
+    ensures prints { Prints K.taken K.faults (λ answer. answer ≡ ran_by options plan.now image.now) result out.old
+        out.new }
 {
     let Ok(mut soc) = open_system(alloc, image, options, plan) else {
         return Outcome::OutOfMemory;

@@ -4,7 +4,8 @@ ghost use Rattle.ibx_plan.specs.Plan.{FlipFits};
 ghost use Rattle.ibx_machine.specs.Whole.{IsPlaced};
 ghost use Rattle.ibx_matching.specs.Projection.{AreWords};
 ghost use Rattle.ibx_command.specs.Options.{IsInRange};
-ghost use Rattle.ibx_top.specs.Answers.{file_limit, plan_limit, file_answer, bounds_of, done, setup_of, plain_answer, IsAnswerTo, IsPlannedBy, IsPlanned};
+ghost use Rattle.ibx_top.specs.Answers.{file_limit, plan_limit, file_answer, bounds_of, done, setup_of, plain_answer};
+ghost use Rattle.ibx_top.specs.Answers.{IsAnswerTo, IsPlannedBy, IsPlanned};
 ghost use Rattle.ibx_top.specs.Outcomes.{IfBadWords, IfInjecting, EndsNoticed, IsPastReading, Prints, Reads};
 
 use crate::bytes::are_bytes;
@@ -48,7 +49,8 @@ fn do_image<'w, K: Sink>(
     requires placed { IsPlaced (setup_of options plan.now image.now) }
     ensures past { IsPastReading result }
     ensures noticed { IfInjecting task (EndsNoticed result (K.taken out.old) (K.taken out.new)) }
-    ensures prints { Prints K.taken K.faults (λ answer. answer ≡ done task options plan.now image.now) result out.old out.new }
+    ensures prints { Prints K.taken K.faults (λ answer. answer ≡ done task options plan.now image.now) result out.old
+        out.new }
 {
     match task {
         Task::Run => run_image(alloc, image, options, plan, out),
@@ -72,7 +74,8 @@ fn do_bytes<'w, K: Sink>(
     requires fits { length bytes.now ≤ file_limit }
     ensures past { IsPastReading result }
     ensures noticed { IfInjecting task (EndsNoticed result (K.taken out.old) (K.taken out.new)) }
-    ensures prints { Prints K.taken K.faults (λ answer. answer ≡ file_answer name.now options.ram (done task options plan.now) bytes.now)
+    ensures prints { Prints K.taken K.faults (λ answer. answer ≡ file_answer name.now options.ram
+        (done task options plan.now) bytes.now)
         result out.old out.new }
 {
     are_bytes(bytes);
@@ -140,7 +143,8 @@ fn do_text<'w, F: Files, K: Sink>(
     ensures words { IfBadWords result ⊥ }
     ensures noticed { IfInjecting task (EndsNoticed result (K.taken out.old) (K.taken out.new)) }
     ensures reads { Reads F.contents F.begun F.faults F.misses (name.now ∷ []) result files.old files.new }
-    ensures prints { Prints K.taken K.faults (IsPlannedBy (F.contents files.old) task name.now plan.now options text.now)
+    ensures prints { Prints K.taken K.faults (IsPlannedBy (F.contents files.old) task name.now plan.now options
+        text.now)
         result out.old out.new }
 {
     match read(alloc, text, &bounds_of(task, options)) {
@@ -188,7 +192,8 @@ pub(crate) fn run_plain<'w, F: Files, K: Sink>(
     requires { IsInRange options }
     ensures words { IfBadWords result ⊥ }
     ensures reads { Reads F.contents F.begun F.faults F.misses (name.now ∷ []) result files.old files.new }
-    ensures prints { Prints K.taken K.faults (IsAnswerTo (F.contents files.old) name.now (plain_answer name.now options)) result
+    ensures prints { Prints K.taken K.faults
+        (IsAnswerTo (F.contents files.old) name.now (plain_answer name.now options)) result
         out.old out.new }
 {
     do_plan(

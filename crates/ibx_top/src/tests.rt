@@ -1,4 +1,5 @@
-//! Calls of the whole program on files in memory. The values are the worked examples of the rules, or another program's.
+//! Calls of the whole program on files in memory. The values are the worked examples of the rules, or another
+//! program's.
 mod files;
 mod flips;
 mod hostile;

@@ -4,7 +4,8 @@ ghost use Rattle.ibx_base.specs.Counts.{Rose};
 ghost use Rattle.ibx_base.specs.Files.{IsBegunAs};
 ghost use Rattle.ibx_command.specs.Command.{command_of};
 ghost use Rattle.ibx_top.specs.ErrLines.{bad_words_line, cannot_read_line, cannot_write_line, out_of_memory_line};
-ghost use Rattle.ibx_top.specs.Answers.{Answer, IsAnswer, IfInject, names_of, codes_of, Gives, IsCutShort, Notices, IsOneOf, IsAmong, AreThere, Says};
+ghost use Rattle.ibx_top.specs.Answers.{Answer, IsAnswer, IfInject, names_of, codes_of, Gives, IsCutShort, Notices};
+ghost use Rattle.ibx_top.specs.Answers.{IsOneOf, IsAmong, AreThere, Says};
 ghost use Rattle.ibx_top.specs.Answers.{IfTwin, TellsTime};
 ghost use Rattle.ibx_top.specs.Outcomes.{EndsNoticed, Fits, Prints, Reads};
 
@@ -26,11 +27,13 @@ fn perform<'w, F: Files, K: Sink>(
     out: &mut K,
 ) -> Outcome<'w>
     ensures fits { Fits (command_of (map string_bytes words.now)) result files.old files.new }
-    ensures reads { Reads F.contents F.begun F.faults F.misses (names_of (command_of (map string_bytes words.now))) result
+    ensures reads { Reads F.contents F.begun F.faults F.misses (names_of (command_of (map string_bytes words.now)))
+        result
         files.old files.new }
     ensures prints { Prints K.taken K.faults (IsAnswer (F.contents files.old) (command_of (map string_bytes words.now)))
         result out.old out.new }
-    ensures noticed { IfInject (command_of (map string_bytes words.now)) (EndsNoticed result (K.taken out.old) (K.taken out.new)) }
+    ensures noticed { IfInject (command_of (map string_bytes words.now))
+        (EndsNoticed result (K.taken out.old) (K.taken out.new)) }
 {
     match read_words(words) {
         None => Outcome::BadWords,
@@ -74,12 +77,12 @@ fn perform<'w, F: Files, K: Sink>(
 /// events are the same, or the first index at which they differ, with both views; a view has all of an event that time
 /// may depend on.
 ///
-/// `asm FILE` reads a text of at most 4,194,304 bytes, and writes the file around the code that it stands for. `dis FILE`
-/// writes the code of a file as text.
+/// `asm FILE` reads a text of at most 4,194,304 bytes, and writes the file around the code that it stands for. `dis
+/// FILE` writes the code of a file as text.
 ///
 /// `gen SEED` runs the program that the number gives, in the memory of a run without options and without a plan, and
-/// writes three lines: `gen SEED 4105`, with the count of the program's words; `sum HHHHHHHH`, the sum modulo 2^32 of the
-/// values that were written to registers; and the last line of the run.
+/// writes three lines: `gen SEED 4105`, with the count of the program's words; `sum HHHHHHHH`, the sum modulo 2^32 of
+/// the values that were written to registers; and the last line of the run.
 ///
 /// | status | of | meaning | line on `err` |
 /// |---|---|---|---|
@@ -98,10 +101,10 @@ fn perform<'w, F: Files, K: Sink>(
 /// | 9 | `twin` | the views differ, and the cycles are the same before that | none |
 /// | 12 | `asm` | the text is refused | `ibex: NAME: asm line N KIND` or `ibex: NAME: text too long` |
 ///
-/// The plan is read and followed before a file is read, and the first file is read and checked before the second. A fault
-/// of `err` leaves a prefix of the line there and changes nothing else. All memory is taken before the first step. The
-/// seal of a run is the sum over main's fields in the state that its steps leave, modulo 2^64; that of a comparison is this
-/// of both runs, added; else it is 0. (Statuses, lines and formats are our own rules.)
+/// The plan is read and followed before a file is read, and the first file is read and checked before the second. A
+/// fault of `err` leaves a prefix of the line there and changes nothing else. All memory is taken before the first
+/// step. The seal of a run is the sum over main's fields in the state that its steps leave, modulo 2^64; that of a
+/// comparison is this of both runs, added; else it is 0. (Statuses, lines and formats are our own rules.)
 pub fn ibex<F: Files, K: Sink, E: Sink>(
     alloc: Global,
     words: &[String],

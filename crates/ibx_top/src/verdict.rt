@@ -3,7 +3,8 @@ ghost use Rattle.std.specs.Prelude.{◌≡◌, ◌+◌, ◌≤◌, ◌++◌, len
 ghost use Rattle.arrayvec.specs.ArrayString.{array_string_len};
 ghost use Rattle.ibx_base.specs.Counts.{HasCause};
 ghost use Rattle.ibx_base.specs.Sinks.{with_more, TookPrefix};
-ghost use Rattle.ibx_top.specs.Verdicts.{kinds_text as kinds_text_lem, diff_line as diff_line_lem, alert_line as alert_line_lem, verdict_text};
+ghost use Rattle.ibx_top.specs.Verdicts.{kinds_text as kinds_text_lem, diff_line as diff_line_lem};
+ghost use Rattle.ibx_top.specs.Verdicts.{alert_line as alert_line_lem, verdict_text};
 
 use arrayvec::ArrayString;
 use bitflags::Flags;

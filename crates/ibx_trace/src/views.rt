@@ -2,7 +2,8 @@
 ghost use Rattle.std.specs.Prelude.{◌≡◌, ◌≢◌, ◌+◌, ◌%◌, ◌^◌, ◌<◌, ◌≤◌, ◌++◌, ◌⊎◌, length, IsSome};
 ghost use Rattle.arrayvec.specs.ArrayString.{array_string_len};
 ghost use Rattle.ibx_isa.specs.Lengths.{IsWordOrHalf};
-ghost use Rattle.ibx_trace.specs.ViewLines.{view_heading, part_text, operands_text, retirement_text, trap_text, interrupt_text, view_line_of};
+ghost use Rattle.ibx_trace.specs.ViewLines.{view_heading, part_text, operands_text, retirement_text, trap_text};
+ghost use Rattle.ibx_trace.specs.ViewLines.{interrupt_text, view_line_of};
 
 use crate::digits::{Line, push_hex, push_number, push_word};
 use arrayvec::ArrayString;

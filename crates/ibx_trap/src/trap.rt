@@ -1,5 +1,6 @@
 ghost use Rattle.std.specs.Prelude.{◌≡◌, ◌<◌, ◌%◌};
-ghost use Rattle.ibx_trap.specs.Traps.{enter_of, enter_target, leave_of, entered_mstatus, left_mstatus, excepted, IsKept};
+ghost use Rattle.ibx_trap.specs.Traps.{enter_of, enter_target, leave_of, entered_mstatus, left_mstatus, excepted};
+ghost use Rattle.ibx_trap.specs.Traps.{IsKept};
 
 use ibx_isa::TrapRegs;
 use ibx_isa::control::{DOUBLE_FAULT_SEEN, MIE, MPIE, MPP, MPRV, SYNC_EXC_SEEN};

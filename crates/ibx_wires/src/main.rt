@@ -1,9 +1,10 @@
-//! Prints the requests on the bus of a run, cycle by cycle: the words are those of the command `run`, and the run goes on
-//! past a halting store up to its budget.
+//! Prints the requests on the bus of a run, cycle by cycle: the words are those of the command `run`, and the run goes
+//! on past a halting store up to its budget.
 //!
-//! A line is `CYCLE i ADDR ENABLES WRITE WORD` for the instruction port and the same with `d` for the data port: the cycle
-//! decimal, the byte address in 8 hexadecimal digits, the byte enables in one, 1 for a write, and the codeword in 10
-//! hexadecimal digits, which is 0 for a read. A cycle without a request has no line. (The format is our own rule.)
+//! A line is `CYCLE i ADDR ENABLES WRITE WORD` for the instruction port and the same with `d` for the data port: the
+//! cycle decimal, the byte address in 8 hexadecimal digits, the byte enables in one, 1 for a write, and the codeword
+//! in 10 hexadecimal digits, which is 0 for a read. A cycle without a request has no line. (The format is our own
+//! rule.)
 #![tactic(auto)]
 
 ghost use Rattle.ibx_elf.specs.Ram.{IsRamRange};

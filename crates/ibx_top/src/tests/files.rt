@@ -101,7 +101,8 @@ fn firmware_of_64_kib_runs(rt: HostRuntime) -> Result<(), Fail> {
 #[test]
 fn the_outside_fails(rt: HostRuntime) -> Result<(), Fail> {
     let two_lines = "R 2 00100080 00020337 x06=00020000\nR 3 00100084 00100393 x07=00000001\n";
-    // The words, the call of the files, the writes of each sink that fail (0 for none), the status, and what is written.
+    // The words, the call of the files, the writes of each sink that fail (0 for none), the status, and what is
+    // written.
     let rows = [
         ("run a", 0, 0, 0, 0, HALT_TEXT, ""),
         ("run a", 3, 0, 0, 3, "", "ibex: cannot read a\n"),
