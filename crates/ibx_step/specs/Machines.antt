@@ -1,10 +1,10 @@
 -- The machine's state, and what a step makes of it.
-use Rattle.std.specs.Prelude.{◌≡◌, ◌≢◌, ℕ, ◌%◌, ◌^◌, ◌<◌, ◌≤◌, Option, Some, None, true}
+use Rattle.std.specs.Prelude.{◌≡◌, ◌<◌, ◌≤◌, Option, Some, None, true}
 use Rattle.ibx_isa.specs.Lengths.{IsWordOrHalf}
 use Rattle.ibx_isa.specs.declared.event.Event.{Event}
 use Rattle.ibx_csr.specs.Fields.{values}
 use Rattle.ibx_csr.specs.Values.{csr_tick}
-use Rattle.ibx_isa.specs.Events.{event_register, event_word, Stores, IsStore}
+use Rattle.ibx_isa.specs.Events.{IsStore}
 use Rattle.ibx_arch.specs.declared.done.Done.{Done}
 use Rattle.ibx_arch.specs.declared.done.Done.TheVariants.{Retires, Traps}
 use Rattle.ibx_arch.specs.declared.done.Retirement.{Retirement}

@@ -1,5 +1,5 @@
 -- The lines of a trace, each as its bytes with the line feed. The format is our own.
-use Rattle.std.specs.Prelude.{ℕ, ◌==◌, if◌then◌else◌, Bool, List, [], ◌++◌, Option, Some, None, codes, IsTrue}
+use Rattle.std.specs.Prelude.{ℕ, ◌==◌, if◌then◌else◌, Bool, List, [], ◌++◌, Option, Some, None, codes}
 use Rattle.std.specs.Fmt.{decimal}
 use Rattle.ibx_isa.specs.declared.event.Access.{Access}
 use Rattle.ibx_isa.specs.declared.event.Event.{Event}

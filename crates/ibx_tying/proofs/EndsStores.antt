@@ -32,8 +32,6 @@ use Rattle.ibx_tying.proofs.EndsPlain.{next_even}
 use Rattle.ibx_tying.proofs.EndsSimple.{RowEnds}
 use Rattle.ibx_tying.proofs.EndsTraps.{trapped}
 
--- ---- the value of a store is cut to its bytes
-
 -- ---- memory by the writes of a store
 
 -- a write that is before the cycle shows
