@@ -1,5 +1,6 @@
 -- A decimal number is read as what was written.
-use Rattle.std.proofs.Common.{◌≡◌, ℕ, ◌+◌, ◌*◌, ◌/◌, ◌%◌, ◌^◌, ◌<◌, ◌≤◌, Bool, true, false, eqb, nat_eq, nat_lt, nat_le}
+use Rattle.std.proofs.Common.{◌≡◌, ℕ, ◌+◌, ◌*◌, ◌/◌, ◌%◌, ◌^◌, ◌<◌, ◌≤◌, Bool, true, false, eqb, nat_eq, nat_lt}
+use Rattle.std.proofs.Common.{nat_le}
 use Rattle.std.proofs.Common.{◌&&◌, List, [], ◌∷◌, ◌++◌, length, codes, Option, Some, None, refl, ◌∙◌, ap, arith, lit<}
 use Rattle.std.proofs.Common.{length-append, add-one}
 use Rattle.std.specs.Char.{digit_value, is_digit}

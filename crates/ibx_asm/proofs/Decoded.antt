@@ -14,7 +14,8 @@ use Rattle.ibx_asm.specs.Dis.{pattern_of, patterns, suits, mnemonic_of}
 use Rattle.ibx_asm.specs.Mnemonics.{instructions}
 
 -- something is found where some element passes
-found_any : {X Y : Type 0} (h : X → Y) (p : X → Bool) (xs : List X) → is_some (option_map h (find p xs)) ≡ list_any p xs
+found_any : {X Y : Type 0} (h : X → Y) (p : X → Bool) (xs : List X) → is_some (option_map h (find p xs))
+    ≡ list_any p xs
 found_any h p [] = refl
 found_any h p (x ∷ xs) = elim (cases_Bool (p x)) [
   | inl f ↦ rw f refl

@@ -1,5 +1,6 @@
 -- What is found in a list, and in the list of what its elements stand for.
-use Rattle.std.proofs.Common.{◌≡◌, ℕ, ◌≤◌, Bool, true, nat_le, List, [], ◌∷◌, map, Option, Some, None, IfSome, refl, ap}
+use Rattle.std.proofs.Common.{◌≡◌, ℕ, ◌≤◌, Bool, true, nat_le, List, [], ◌∷◌, map, Option, Some, None, IfSome, refl}
+use Rattle.std.proofs.Common.{ap}
 use Rattle.std.proofs.Common.{◌∙◌, inl, inr, arith}
 use Rattle.std.specs.List.{find, list_all}
 use Rattle.std.specs.Option.{option_map}

@@ -41,7 +41,8 @@ unfolding united
 united_none = refl
 
 -- the bits of two numbers united
-bits_of_both : (x y low count : ℕ) → bits_at (bit_or x y) low count ≡ bit_or (bits_at x low count) (bits_at y low count)
+bits_of_both : (x y low count : ℕ) → bits_at (bit_or x y) low count ≡ bit_or (bits_at x low count)
+    (bits_at y low count)
 bits_of_both x y low count = rw (or_shr x y low) (or_mod (x / 2 ^ low) (y / 2 ^ low) count)
 
 -- a part is read at its own place

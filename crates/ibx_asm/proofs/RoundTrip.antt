@@ -1,5 +1,6 @@
 -- The text of a word assembles to its bytes.
-use Rattle.std.proofs.Common.{◌≡◌, ℕ, ◌-◌, ◌%◌, ◌^◌, ◌<◌, Bool, true, false, cond, eqb, ◌&&◌, ◌||◌, List, [], ◌∷◌, ◌++◌}
+use Rattle.std.proofs.Common.{◌≡◌, ℕ, ◌-◌, ◌%◌, ◌^◌, ◌<◌, Bool, true, false, cond, eqb, ◌&&◌, ◌||◌, List, [], ◌∷◌}
+use Rattle.std.proofs.Common.{◌++◌}
 use Rattle.std.proofs.Common.{length, map, Option, Some, None, Ok, IfSome, refl, sym, subst, ◌∙◌, ap, inl, inr, arith}
 use Rattle.std.proofs.Common.{lit<}
 use Rattle.std.specs.Prelude.{bit_and, bit_or, ◌==◌}
@@ -105,7 +106,8 @@ shown_denotes w n name e es fine row marks excused none whole =
     let slots : List Slot = slots_of e.form in
     let said : without_comment (name ++ operands_text w slots) ≡ name ++ operands_text w slots =
     text_uncommented w name slots fine in
-    let ts : tokens (name ++ operands_text w slots) ≡ name ∷ operand_tokens w e = text_tokens w name slots fine marks in
+    let ts : tokens (name ++ operands_text w slots) ≡ name ∷ operand_tokens w e =
+    text_tokens w name slots fine marks in
     record {
       some = some_text name (operands_text w slots) fine;
       late = text_late w name slots fine;
@@ -188,7 +190,8 @@ whole_word : (w address : ℕ) (p : Pattern) (e : Encoding) → w < 2 ^ 32 → I
     → bit_and w p.mask ≡ p.matches → w % 4 ≡ p.matches % 4 → is_whole p e ≡ true
     → word_with address e (operand_tokens w e) ≡ w
 whole_word w address p e h short match low whole =
-    let q = and_parts (eqb e.word p.matches) (eqb (fold with_slot p.mask (slots_of e.form)) (all_by p.matches)) whole in
+    let q =
+    and_parts (eqb e.word p.matches) (eqb (fold with_slot p.mask (slots_of e.form)) (all_by p.matches)) whole in
     let begin : e.word ≡ bit_and w p.mask = eqb-true e.word p.matches q.0 ∙ sym match in
     let slots : List Slot = slots_of e.form in
     let same : all_by p.matches ≡ all_by w = ap (λ (n : ℕ). cond (eqb n 3) (2 ^ 32 - 1) (2 ^ 16 - 1)) (sym low) in

@@ -128,7 +128,8 @@ no_tokens = refl
 pub tokens_of_slots : (w : ℕ) (slots : List Slot) → alternates slots ≡ true → has_words w slots ≡ true → tokens
     (flat_map (slot_text w) slots) ≡ map (slot_token w) slots
 tokens_of_slots w [] a h = no_tokens
-tokens_of_slots w (slot.Comma ∷ slots) a h = comma_slot w (flat_map (slot_text w) slots) _ (tokens_of_slots w slots a h)
+tokens_of_slots w (slot.Comma ∷ slots) a h =
+    comma_slot w (flat_map (slot_text w) slots) _ (tokens_of_slots w slots a h)
 tokens_of_slots w (slot.Opening ∷ slots) a h = opening_slot w (flat_map (slot_text w) slots) _
     (tokens_of_slots w slots a h)
 tokens_of_slots w (slot.Closing ∷ slots) a h = closing_slot w (flat_map (slot_text w) slots) _

@@ -5,7 +5,8 @@ use Rattle.ibx_asm.specs.declared.fault.AsmFault.TheVariants as fault
 use Rattle.ibx_asm.specs.declared.fault.AsmKind.TheVariants as kind
 use Rattle.ibx_asm.specs.Denote.{are_operands, instruction_of, label_of, placed, code_with, code_of, code_of_all}
 use Rattle.ibx_asm.specs.Denote.{denoted}
-use Rattle.ibx_asm.specs.Dis.{mnemonic_of, hex_digits, gathered, number_in, signed_text, number_text, slot_text, dis_of}
+use Rattle.ibx_asm.specs.Dis.{mnemonic_of, hex_digits, gathered, number_in, signed_text, number_text, slot_text}
+use Rattle.ibx_asm.specs.Dis.{dis_of}
 use Rattle.ibx_asm.specs.Fields.{range_of, places_of, has, twos_complement, united, scattered}
 use Rattle.ibx_asm.specs.Forms.{slots_of}
 use Rattle.ibx_asm.specs.Mnemonics.{encoding_of}

@@ -13,7 +13,8 @@ use Rattle.ibx_bus.proofs.Steps.{merged-lt, stored-bytes, stored-whole}
 
 -- the code of the bus
 code : IsCode 32 7
-code = record { least = omega arith; most = omega arith; some = omega arith; columns = omega arith; word = omega arith }
+code =
+    record { least = omega arith; most = omega arith; some = omega arith; columns = omega arith; word = omega arith }
 
 -- a word that is read fits its bits, also outside the memory
 pub word-fits : (words : List ℕ) (i : ℕ) → All (λ w. w < 2 ^ 39) words → get_or words i 0 < 2 ^ 39
@@ -49,7 +50,8 @@ replaced base words next i w e fits m =
 
 -- the words of an image, once each is put
 pub filled : (image words : List ℕ) (i : ℕ) → length words ≡ length image → length image ≤ i →
-    ((k : ℕ) → k < i → get_or words k 0 ≡ encode_of 32 7 (get_or image k 0)) → words ≡ map (λ v. encode_of 32 7 v) image
+    ((k : ℕ) → k < i → get_or words k 0 ≡ encode_of 32 7 (get_or image k 0))
+    → words ≡ map (λ v. encode_of 32 7 v) image
 filled image words i count all at =
     ext_get_or 0 words (map (λ v. encode_of 32 7 v) image) (rw length-map count)
     (λ k lt. at k (omega arith) ∙ sym (get_or-map (λ v. encode_of 32 7 v) image k 0 0 (omega arith)))

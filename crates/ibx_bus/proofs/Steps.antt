@@ -67,7 +67,8 @@ pub stores : (granted : Bool) (m : MemoryState) (r : Req) → (granted && is_sto
     (memory_after granted m r) r
 stores false m r e = cc
 stores true m r e =
-    let inside : index_of m r.addr < length m.words = index-lt m r.addr (and_parts r.write (memory_has m r.addr) e).1 in
+    let inside : index_of m r.addr < length m.words =
+    index-lt m r.addr (and_parts r.write (memory_has m r.addr) e).1 in
     let here : word_at (record m {
       words = slice_set m.words (index_of m r.addr) (stored_word r.be (word_at m r.addr)
           r.word);
@@ -158,5 +159,6 @@ pub new_word : (p : PortState) (m : MemoryState) (r : Req) → grants r.valid p 
 new_word p m r e = word_by (is_blocked p) r.valid (is_wait_over p) p (error_of m r) (answered_word m r) e
 
 -- without a grant the port's word stays, whatever memory holds
-pub kept_word : (p : PortState) (m : MemoryState) (r : Req) → grants r.valid p ≡ false → (port_next p m r).word ≡ p.word
+pub kept_word : (p : PortState) (m : MemoryState) (r : Req) → grants r.valid p ≡ false
+    → (port_next p m r).word ≡ p.word
 kept_word p m r e = kept_by (is_blocked p) r.valid (is_wait_over p) p (error_of m r) (answered_word m r) e

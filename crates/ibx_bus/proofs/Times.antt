@@ -1,5 +1,6 @@
 -- The port over a whole list of calls.
-use Rattle.std.proofs.Common.{◌≡◌, ℕ, suc, ◌+◌, ◌<◌, ◌≤◌, ◌⊎◌, ◌≢◌, Bool, true, false, not, List, [], ◌∷◌, length, refl}
+use Rattle.std.proofs.Common.{◌≡◌, ℕ, suc, ◌+◌, ◌<◌, ◌≤◌, ◌⊎◌, ◌≢◌, Bool, true, false, not, List, [], ◌∷◌, length}
+use Rattle.std.proofs.Common.{refl}
 use Rattle.std.proofs.Common.{sym, ap, ◌∙◌, inl, inr, arith, subst}
 use Rattle.std.specs.Prelude.{◌&&◌, ◌||◌}
 use Rattle.std.proofs.Math.Nat.{zero-mod}
@@ -11,7 +12,8 @@ use Rattle.ibx_bus.specs.PortTimes.{Call, Seen, trace, issues, granted_in, answe
 use Rattle.ibx_bus.specs.PortTimes.{grant_time, grant_times, answer_times, below, in_front_if, trace_of, GrantsInTime}
 use Rattle.ibx_bus.specs.PortTimes.{AnswersInTime}
 use Rattle.ibx_bus.proofs.Ports.{Idle, Waiting, Granted, Free, Grants, Waits, moved, place_of, idle_free, idle_silent}
-use Rattle.ibx_bus.proofs.Ports.{waiting_silent, granted_free, granted_answers, granted_silent, free_rests, free_starts}
+use Rattle.ibx_bus.proofs.Ports.{waiting_silent, granted_free, granted_answers, granted_silent, free_rests}
+use Rattle.ibx_bus.proofs.Ports.{free_starts}
 use Rattle.ibx_bus.proofs.Ports.{waiting_goes, granted_goes, no_grant}
 
 -- a time before the end of the trace counts

@@ -65,7 +65,8 @@ operands_same x y h =
 view_self : (v : View) → agree_views v v ≡ true
 view_self v =
     together (number_self v.kind) (together (number_self v.pc) (together (number_self v.word)
-    (together (option_self (λ x y. x == y) number_self v.addr) (together (option_self (λ x y. x == y) number_self v.ctl)
+    (together (option_self (λ x y. x == y) number_self v.addr)
+    (together (option_self (λ x y. x == y) number_self v.ctl)
     (together (option_self agree_operands operands_self v.ops) (together (number_self v.cause)
     (number_self v.tval)))))))
 

@@ -28,7 +28,8 @@ payloads words = All-map (λ v. v < 2 ^ 32) (λ word. payload_of 32 word) words 
 -- a system that is as it was opened is in a first state
 new_is_first : (w : Whole State) → IsAsNew w → IsFirst core_parts w
 new_is_first w new =
-    let place = first_place (words_in w) w.place.memory.base w.place.settings w.place.iport.waits w.place.dport.waits in
+    let place =
+    first_place (words_in w) w.place.memory.base w.place.settings w.place.iport.waits w.place.dport.waits in
     subst (λ (v : Whole State). IsFirst core_parts v) (sym new.state)
     (first_at_reset core_parts (reset_of w.main.next_pc) (quiet_in, quiet_out) (quiet_in, quiet_out) place refl
     (codewords_at_reset w.place.settings (words_in w) w.place.memory.base w.place.iport.waits w.place.dport.waits

@@ -1,5 +1,6 @@
 -- Two runs side by side, with what was found in them so far.
-use Rattle.std.proofs.Common.{◌≡◌, ℕ, suc, ◌+◌, ◌≤◌, Bool, true, false, not, Option, Some, None, length, inl, inr, refl}
+use Rattle.std.proofs.Common.{◌≡◌, ℕ, suc, ◌+◌, ◌≤◌, Bool, true, false, not, Option, Some, None, length, inl, inr}
+use Rattle.std.proofs.Common.{refl}
 use Rattle.std.proofs.Common.{sym, ap, ◌∙◌, subst, arith}
 use Rattle.std.specs.Prelude.{◌&&◌, ◌==◌, nat_lt, min}
 use Rattle.std.proofs.lemmas.Bool.{cases_lt, le-ltb, lt-ltb}
@@ -93,7 +94,8 @@ run_on w f cycles n clean faulty clean_after faulty_after v after shown flipped 
     let first : shown ≡ cycle_of (run core_parts w None n) = show ∙ ap cycle_of h.clean in
     let second : flipped ≡ cycle_of (before_step core_parts w (Some f) n) = show_flipped ∙ ap
     (λ (x : Whole State). cycle_of (made core_parts (Some f) x)) h.faulty in
-    subst (λ k. HasRun w f cycles k clean_after faulty_after after) (let e : suc n ≡ n + 1 = omega arith in e) (record {
+    subst (λ k. HasRun w f cycles k clean_after faulty_after after)
+    (let e : suc n ≡ n + 1 = omega arith in e) (record {
       clean = next ∙ ap soc_next h.clean ∙ sym (run_more core_parts None n w);
       faulty = next_flipped ∙ ap (λ (x : Whole State). soc_next (made core_parts (Some f) x)) h.faulty ∙ sym
           (run_more core_parts (Some f) n w);

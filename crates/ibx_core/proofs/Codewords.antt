@@ -106,7 +106,8 @@ first_sound rsp false store word =
     ]
 
 -- the same of the second portion
-second_sound : (rsp : Rsp) (store : Bool) (first word : ℕ) → IsSound (second_answer (reply_of rsp) store first word).req
+second_sound : (rsp : Rsp) (store : Bool) (first word : ℕ)
+    → IsSound (second_answer (reply_of rsp) store first word).req
 second_sound rsp store first word =
     elim (cases_Bool rsp.valid) [
       | inl v ↦ elim (cases_Bool (rsp.err || not (syndrome_of 32 7 rsp.word == 0))) [
@@ -225,7 +226,8 @@ filled_lines (Stores slot tag word0 word1) bus alerts h = inl h
 
 -- data words that are written are codewords
 pub line_written : (x : State) (i : InWires)
-    → ((is_bad_word (core_out x i).dw0 ≡ false) × (is_bad_word (core_out x i).dw1 ≡ false)) ⊎ ((core_out x i).dways ≡ 0)
+    → ((is_bad_word (core_out x i).dw0 ≡ false) × (is_bad_word (core_out x i).dw1 ≡ false))
+    ⊎ ((core_out x i).dways ≡ 0)
 unfolding core_out gives out_by out_with out_of
 line_written x i =
     let j = heard x i in

@@ -1,5 +1,5 @@
--- The laws of a cycle, for every value of the fields and the wires: unused words and grants have no effect on the wires
--- out, what is read is put out, and the alerts are those of their causes.
+-- The laws of a cycle, for every value of the fields and the wires: unused words and grants have no effect on the
+-- wires out, what is read is put out, and the alerts are those of their causes.
 use Rattle.std.proofs.Common.{◌≡◌, ℕ, ◌+◌, ◌*◌, Bool, true, false, Option, Some, None, refl, sym, ◌∙◌, ap}
 use Rattle.std.specs.Prelude.{not, ◌&&◌, ◌||◌, if◌then◌else◌, ◌%◌, ◌/◌, ◌==◌}
 use Rattle.ibx_isa.specs.declared.event.Access.{Access}

@@ -74,7 +74,8 @@ module _ {S : Type 0} (p : Parts S) (laws : CoreLaws p) where
       let o = p.gives s i in
       put_good is_bad_tag (writes_way o.tways 1) (put_if (writes_way o.tways 0) words (tag_index o.tset 0) o.tword)
       (tag_index o.tset 1) o.tword (tag_word s i 1 (omega arith))
-      (put_good is_bad_tag (writes_way o.tways 0) words (tag_index o.tset 0) o.tword (tag_word s i 0 (omega arith)) all)
+      (put_good is_bad_tag (writes_way o.tways 0) words (tag_index o.tset 0) o.tword
+      (tag_word s i 0 (omega arith)) all)
 
   -- the data words of one way
   way_good : (s : S) (i : In) (way : ℕ) → way < 2 → (words : List ℕ) → Good is_bad_word words
@@ -193,7 +194,8 @@ module _ {S : Type 0} (p : Parts S) (laws : CoreLaws p) where
   fits_settled (site.Delay slot wire bit) e o f = tt
   fits_settled (site.Reg n bit) e o f =
       (f.0, subst (λ k. n < k) (sym (length_put (writes_register o) e.registers o.rwn o.rwword)) f.1, f.2)
-  fits_settled (site.Tag set way bit) e o f = (subst (λ k. tag_index set way < k) (sym (length_tags e.tags o)) f.0, f.1)
+  fits_settled (site.Tag set way bit) e o f =
+      (subst (λ k. tag_index set way < k) (sym (length_tags e.tags o)) f.0, f.1)
   fits_settled (site.Line set way half bit) e o f = (
     subst (λ k. line_index set way half < k)
         (sym (length_way (way_after e.lines o 0) o 1 ∙ length_way e.lines o 0)) f.0,

@@ -1,4 +1,5 @@
--- Which words of an input are used, worked out by cases: a word with one bit flipped is heard exactly where it is used.
+-- Which words of an input are used, worked out by cases: a word with one bit flipped is heard exactly where it is
+-- used.
 use Rattle.std.proofs.Common.{◌≡◌, ℕ, ◌+◌, ◌/◌, ◌^◌, Bool, true, false, List, [], ◌∷◌, refl}
 use Rattle.std.specs.Prelude.{bit_xor}
 use Rattle.std.specs.List.{list_all}

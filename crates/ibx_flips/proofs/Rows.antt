@@ -193,7 +193,8 @@ unfolding system program halting events
 taken = refl
 
 -- BNE x0, x0
-untaken : events 7 (program (0x00001463 ∷ halting)) ≡ (2, 0x100080) ∷ (3, 0x100084) ∷ (4, 0x100088) ∷ (6, 0x10008c) ∷ []
+untaken : events 7 (program (0x00001463 ∷ halting)) ≡ (2, 0x100080) ∷ (3, 0x100084) ∷ (4, 0x100088)
+    ∷ (6, 0x10008c) ∷ []
 unfolding system program halting events
 untaken = refl
 

@@ -35,7 +35,10 @@ found (suc n) test t d e =
             late = omega (arith, r.late);
             inside = omega (arith, r.inside);
             least = λ b low high.
-                elim (cases_eq t b) [ inl same ↦ ap test (sym same) ∙ miss | inr other ↦ r.least b (omega arith) high ];
+                elim (cases_eq t b) [
+                  | inl same ↦ ap test (sym same) ∙ miss
+                  | inr other ↦ r.least b (omega arith) high
+                ];
           }
     ]
 

@@ -1,5 +1,6 @@
 -- A body word decodes to the instruction that its draw chooses.
-use Rattle.std.proofs.Common.{◌≡◌, ℕ, zero, suc, ◌+◌, ◌*◌, ◌/◌, ◌%◌, ◌^◌, ◌<◌, ◌≤◌, [], ◌∷◌, ◌++◌, refl, ◌∙◌, ap, arith}
+use Rattle.std.proofs.Common.{◌≡◌, ℕ, zero, suc, ◌+◌, ◌*◌, ◌/◌, ◌%◌, ◌^◌, ◌<◌, ◌≤◌, [], ◌∷◌, ◌++◌, refl, ◌∙◌, ap}
+use Rattle.std.proofs.Common.{arith}
 use Rattle.std.proofs.Common.{Some, eq-or-lt_of_le, inl, inr, add-one, subst}
 use Rattle.std.specs.Prelude.{bit_and, slice_get, slice_index}
 use Rattle.std.specs.Int.Bits.{and_mask}
@@ -137,7 +138,8 @@ sw imm rs2 rs1 a b c =
 bne : (rs2 rs1 : ℕ) → rs2 < 32 → rs1 < 32 → decode_of (b_type 8 rs2 rs1 1 0x63) ≡ Some (Branch Ne rs1 rs2 8)
 bne rs2 rs1 a b =
     let w = b_type 8 rs2 rs1 1 0x63 in
-    let h = has_fields w 0 rs2 rs1 1 8 0x63 (omega arith) (omega arith) a b (omega arith) (omega arith) (omega arith) in
+    let h =
+    has_fields w 0 rs2 rs1 1 8 0x63 (omega arith) (omega arith) a b (omega arith) (omega arith) (omega arith) in
     let number : w / 2 ^ 31 * 2 ^ 12 + bits_at w 7 1 * 2 ^ 11 + bits_at w 25 6 * 2 ^ 5 + bits_at w 8 4 * 2 ≡ 8 = omega
     arith in
     branch_rows w h.fits h.low ∙ rw (h.middle, h.first, h.second, number) refl

@@ -55,7 +55,8 @@ last {before} {now} {after} {piece} {whole} so_far wrote =
 
 -- nothing is left to write
 pub done : {before now : Option (List ℕ)} {whole : List ℕ} → SoFar before now [] whole → now ≡ with_more before whole
-done {before} {now} {whole} so_far = so_far.taken ∙ ap (with_more before) (sym (append-nil so_far.gained) ∙ so_far.text)
+done {before} {now} {whole} so_far = so_far.taken ∙ ap (with_more before) (sym (append-nil so_far.gained)
+    ∙ so_far.text)
 
 -- a piece that was cut short
 pub cut : {before now after : Option (List ℕ)} {whole : List ℕ} (piece rest : List ℕ) → SoFar before now

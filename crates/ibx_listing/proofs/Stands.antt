@@ -20,7 +20,8 @@ use Rattle.ibx_asm.proofs.DataLines.{address_line, byte_as_data, halfword_as_dat
 use Rattle.ibx_asm.proofs.RoundTrip.{dis_stands}
 use Rattle.ibx_asm.proofs.Standing.{IsLineOf, AreLinesOf, no_lines, with_line, all_alone}
 use Rattle.ibx_listing.specs.Laws.{AreBytes, ListsItsFile}
-use Rattle.ibx_listing.specs.Listing.{first_half, first_word, first_size, first_text, lines_after, lines_of, listing_of}
+use Rattle.ibx_listing.specs.Listing.{first_half, first_word, first_size, first_text, lines_after, lines_of}
+use Rattle.ibx_listing.specs.Listing.{listing_of}
 use Rattle.ibx_listing.proofs.Steps.{some_size, drop_first}
 
 -- the bytes after the first
@@ -75,7 +76,8 @@ short_stands a b code h short =
 
 -- and one that asks for a word which isn't there
 cut_stands : (a b : ℕ) (code : List ℕ) → AreBytes (a ∷ b ∷ code) → is_long (first_half (a ∷ b ∷ code)) ≡ true
-    → length (a ∷ b ∷ code) < 4 → IsLineOf (first_text (a ∷ b ∷ code)) (take (first_size (a ∷ b ∷ code)) (a ∷ b ∷ code))
+    → length (a ∷ b ∷ code) < 4
+    → IsLineOf (first_text (a ∷ b ∷ code)) (take (first_size (a ∷ b ∷ code)) (a ∷ b ∷ code))
 unfolding first_text first_size
 cut_stands a b code h asks few =
     let n : ℕ = first_half (a ∷ b ∷ code) in

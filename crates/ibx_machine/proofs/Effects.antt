@@ -1,5 +1,6 @@
 -- What the stage does to an instruction that retires is what the architecture does.
-use Rattle.std.proofs.Common.{◌≡◌, ℕ, ◌==◌, Bool, true, false, List, Option, Some, None, refl, sym, ap, ap₂, ◌∙◌, subst}
+use Rattle.std.proofs.Common.{◌≡◌, ℕ, ◌==◌, Bool, true, false, List, Option, Some, None, refl, sym, ap, ap₂, ◌∙◌}
+use Rattle.std.proofs.Common.{subst}
 use Rattle.std.specs.Prelude.{if◌then◌else◌, slice_set}
 use Rattle.ibx_isa.specs.declared.insn.Insn.TheVariants.{Lui, Alu}
 use Rattle.ibx_isa.specs.declared.insn.AluOp.{AluOp}

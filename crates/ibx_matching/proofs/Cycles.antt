@@ -52,7 +52,8 @@ unfolding core_next_by next_by md_next ls_by
 left_is c x i = refl
 
 -- the fields after a cycle
-pub fields_are : (x : State) (i : InWires) → machine_next (machine_core x) (machine_in i) ≡ machine_core (core_next x i)
+pub fields_are : (x : State) (i : InWires) → machine_next (machine_core x) (machine_in i)
+    ≡ machine_core (core_next x i)
 unfolding leaves
 fields_are x i =
     ap (λ (c : Cycle). core_next_by c (machine_core x) (machine_in i)) (cycle_is x i)

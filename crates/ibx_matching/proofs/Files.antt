@@ -86,7 +86,8 @@ segments_low file (suc n) all =
     (loads_low file h.p_paddr h.p_filesz h.p_offset (is_load h) all)
 
 -- so a byte of the image is one
-bytes_low : (file : List ℕ) (ram : Ram) (addr : ℕ) → All (λ b. b < 256) file → image_byte (image_of file ram) addr < 256
+bytes_low : (file : List ℕ) (ram : Ram) (addr : ℕ) → All (λ b. b < 256) file
+    → image_byte (image_of file ram) addr < 256
 unfolding image_byte
 bytes_low file ram addr all =
     or_zero_low (first_of (map (loaded_byte addr) (segments_below file (e_phnum file))))

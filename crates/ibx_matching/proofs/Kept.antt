@@ -51,7 +51,8 @@ low_write (Some w) regs rs e all =
           let same : encode_of 32 7 w.1 ≡ encode_of 32 7 (slice_index rs w.0) =
           sym (get_or-set_same regs w.0 (encode_of 32 7 w.1) 0 inside) ∙ ap (λ (l : List ℕ). slice_index l w.0) e
           ∙ get_or-map (encode_of 32 7) rs w.0 0 0 low in
-          ap (slice_set regs w.0) (narrow w.1 (slice_index rs w.0) same (All-get_or (λ v. v < 2 ^ 32) rs w.0 0 low all))
+          ap (slice_set regs w.0) (narrow w.1 (slice_index rs w.0) same
+          (All-get_or (λ v. v < 2 ^ 32) rs w.0 0 low all))
       | inr past ↦ set_past regs w.0 (encode_of 32 7 w.1) past ∙ sym (set_past regs w.0 (encode_of 32 7 (w.1 % 2 ^ 32))
           past)
     ]

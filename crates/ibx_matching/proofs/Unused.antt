@@ -67,7 +67,8 @@ bad1_is addr k = bad1_by (is_bad_tag k.tag1) (matches k.tag0 addr) (matches k.ta
 hit_is : (addr : ℕ) (k : Look) → is_hit (gated_look true addr k) addr ≡ is_hit k addr
 unfolding is_hit
 hit_is addr k =
-    ap₂ (λ (a b : Bool). (matches k.tag0 addr || matches k.tag1 addr) && not (a || b)) (bad0_is addr k) (bad1_is addr k)
+    ap₂ (λ (a b : Bool). (matches k.tag0 addr || matches k.tag1 addr) && not (a || b)) (bad0_is addr k)
+    (bad1_is addr k)
 
 -- the way that a miss fills
 victim_is : (addr : ℕ) (k : Look) (alt : Bool) → victim_of (gated_look true addr k) addr alt ≡ victim_of k addr alt

@@ -18,7 +18,8 @@ column_xor : (a b c : ℕ) → a < 2 → b < 2 → (a + b) % 2 * c ≡ bit_xor (
 column_xor zero zero c la lb = let none : 0 * c ≡ 0 = omega arith in rw none (sym (xor_self 0))
 column_xor zero (suc zero) c la lb = let none : 0 * c ≡ 0 = omega arith in rw none (sym (xor_zero_l (1 * c)))
 column_xor (suc zero) zero c la lb = let none : 0 * c ≡ 0 = omega arith in rw none (sym (xor_zero_r (1 * c)))
-column_xor (suc zero) (suc zero) c la lb = let none : (1 + 1) % 2 * c ≡ 0 = omega arith in none ∙ sym (xor_self (1 * c))
+column_xor (suc zero) (suc zero) c la lb =
+    let none : (1 + 1) % 2 * c ≡ 0 = omega arith in none ∙ sym (xor_self (1 * c))
 column_xor zero (suc (suc b)) c la lb = absurd (omega arith)
 column_xor (suc zero) (suc (suc b)) c la lb = absurd (omega arith)
 column_xor (suc (suc a)) b c la lb = absurd (omega arith)
@@ -74,7 +75,8 @@ pub fours-step : (h n v place check entry : ℕ) → check ≡ checks h n (v % 2
     (v / 2 ^ (4 * place) % 16) → bit_xor check entry ≡ checks h n (v % 2 ^ (4 * (place + 1)))
 fours-step h n v place check entry a b =
     let next : 4 * (place + 1) ≡ 4 * place + 4 = omega arith in
-    let whole : v % 2 ^ (4 * (place + 1)) ≡ bit_xor (v % 2 ^ (4 * place)) (v / 2 ^ (4 * place) % 16 * 2 ^ (4 * place)) =
+    let whole : v % 2 ^ (4 * (place + 1)) ≡ bit_xor (v % 2 ^ (4 * place))
+    (v / 2 ^ (4 * place) % 16 * 2 ^ (4 * place)) =
     ap (λ (x : ℕ). v % 2 ^ x) next ∙ low_fours v (4 * place) ∙ sym (xor_above (v / 2 ^ (4 * place) % 16)
     (v % 2 ^ (4 * place)) (4 * place) (mod_below v (2 ^ (4 * place)) (pow_pos (4 * place)))) in
     rw (a, b, whole) (sym (checks-xor h n (v % 2 ^ (4 * place)) (v / 2 ^ (4 * place) % 16 * 2 ^ (4 * place))))

@@ -5,7 +5,8 @@ use Rattle.std.proofs.Common.{add_comm}
 use Rattle.std.specs.Prelude.{◌&&◌, nat_lt}
 use Rattle.std.specs.Int.{bit_at}
 use Rattle.std.specs.Int.Bits.{bit_xor, xor_assoc, xor_self, xor_zero_r, xor_zero_l, xor_shr, xor_mod}
-use Rattle.std.proofs.lemmas.Nat.{pow_pos, xor_lt, pow_below, shr_high, mod_low, shr_split, mod_below, pow-add, shl-shr}
+use Rattle.std.proofs.lemmas.Nat.{pow_pos, xor_lt, pow_below, shr_high, mod_low, shr_split, mod_below, pow-add}
+use Rattle.std.proofs.lemmas.Nat.{shl-shr}
 use Rattle.std.proofs.lemmas.Nat.{shr_below}
 use Rattle.std.proofs.Math.Nat.{mul-mod_left, mod-eq_of_lt, div-eq_of_lt}
 use Rattle.std.proofs.lemmas.Nat.Bits.{bit_at-lt, bit_at_xor, bit_at-pow_same, bit_at-pow_other}
@@ -312,7 +313,8 @@ syndrome_of-flip k h w b =
 -- a flipped payload bit changes the syndrome by its column
 pub payload_flip : (k h w b : ℕ) → b < k → syndrome_of k h (bit_xor w (2 ^ b)) ≡ bit_xor (syndrome_of k h w)
     (column h b)
-payload_flip k h w b lt = syndrome_of-flip k h w b ∙ ap (λ (x : ℕ). bit_xor (syndrome_of k h w) x) (effect-low k h b lt)
+payload_flip k h w b lt =
+    syndrome_of-flip k h w b ∙ ap (λ (x : ℕ). bit_xor (syndrome_of k h w) x) (effect-low k h b lt)
 
 -- a flipped check bit changes that bit of the syndrome and no other
 pub check_flip : (k h w b : ℕ) → syndrome_of k h (bit_xor w (2 ^ (k + b))) ≡ bit_xor (syndrome_of k h w) (2 ^ b)

@@ -1,5 +1,6 @@
 -- The words of an image, as they are filled in, and the first state.
-use Rattle.std.proofs.Common.{◌≡◌, ℕ, zero, suc, ◌+◌, ◌*◌, ◌/◌, ◌%◌, ◌^◌, ◌<◌, List, [], ◌∷◌, length, get_or, refl, sym}
+use Rattle.std.proofs.Common.{◌≡◌, ℕ, zero, suc, ◌+◌, ◌*◌, ◌/◌, ◌%◌, ◌^◌, ◌<◌, List, [], ◌∷◌, length, get_or, refl}
+use Rattle.std.proofs.Common.{sym}
 use Rattle.std.proofs.Common.{ap, ◌∙◌, subst, arith}
 use Rattle.std.specs.Prelude.{All, map}
 use Rattle.std.proofs.lemmas.List.{ext_get_or}
@@ -30,7 +31,8 @@ word-at : (image : Placed) (addr n i : ℕ) → i < n → get_or (words_from ima
 unfolding words_from
 word-at image addr zero i lt = absurd (omega arith)
 word-at image addr (suc n) zero lt = ap (image_word image) (omega arith)
-word-at image addr (suc n) (suc i) lt = word-at image (addr + 4) n i (omega arith) ∙ ap (image_word image) (omega arith)
+word-at image addr (suc n) (suc i) lt = word-at image (addr + 4) n i (omega arith)
+    ∙ ap (image_word image) (omega arith)
 
 -- words that hold the image are its words
 pub filled_is : (image : Placed) (words : List ℕ) → length words ≡ image.ram.size / 4 → HoldsWords image words → words

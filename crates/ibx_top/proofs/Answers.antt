@@ -221,7 +221,8 @@ planned_codes task name plan options text bytes =
 codes_by : (told : Option Contents) (task : Task) (name plan : List ℕ) (options : Options) (answer : Answer) →
     IsPlanned told task name plan options answer → IsOneOf (all_codes task) answer.code
 codes_by told task name plan options answer (text, (content, (bytes, (read, same)))) =
-    subst (λ (a : Answer). IsOneOf (all_codes task) a.code) (sym same) (planned_codes task name plan options text bytes)
+    subst (λ (a : Answer). IsOneOf (all_codes task) a.code) (sym same)
+    (planned_codes task name plan options text bytes)
 
 -- the statuses of a run without a file
 summed_one : (halted : Bool) → IsOneOf (0 ∷ 1 ∷ 4 ∷ 7 ∷ []) (halt_code halted)

@@ -196,7 +196,8 @@ module _ {budget : ℕ} {start : Whole State} {before now : Option (List ℕ)} {
       let (less, (one, count)) = one_left index r.left budget r.count within in
       let later : Drive = drive_from less (soc_next w) in
       let here : Drive = drive_after false event (soc_next w) later in
-      let rest : drive_from r.left w ≡ here = ap (λ (n : ℕ). drive_from n w) one ∙ drive_event less w event false e h in
+      let rest : drive_from r.left w ≡ here =
+      ap (λ (n : ℕ). drive_from n w) one ∙ drive_event less w event false e h in
       record {
         left = less;
         count = count;

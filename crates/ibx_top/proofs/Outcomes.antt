@@ -300,7 +300,8 @@ told_complete {F} {K} taken faults contents command (Ran halted seal) code sl fb
 told_complete {F} {K} taken faults contents command (Injected alert) code sl fb fa before after Read e sealed fits
     unread prints r w answer is = given taken contents command (Injected alert) code sl before after answer e sealed is
     prints.answered
-told_complete {F} {K} taken faults contents command (Compared differ seal) code sl fb fa before after Read e sealed fits
+told_complete {F} {K} taken faults contents command (Compared differ seal) code sl fb fa before after Read
+    e sealed fits
     unread prints r w answer is = given taken contents command (Compared differ seal) code sl before after answer e
     sealed is prints.answered
 told_complete {F} {K} taken faults contents command (TooLong name) code sl fb fa before after Read e sealed fits unread
@@ -423,7 +424,8 @@ pub answered_by : (told : Option Contents) (command : Option Meaning) (outcome :
     → IsOneOf answer_statuses code
     → (answer : Answer) × (IsAnswer told command answer × (Gives answer code seal before after
     × Says err_before err_after faults_before faults_after answer.line))
-answered_by told command outcome code seal before after err_before err_after faults_before faults_after e f says h one =
+answered_by told command outcome code seal before after err_before err_after faults_before faults_after e
+    f says h one =
     let (answer, (is, settles)) = has_answer outcome
     ((answer : Answer) × (IsAnswer told command answer × Settles answer outcome before after)) code e h one in (
       answer,

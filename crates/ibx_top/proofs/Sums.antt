@@ -41,7 +41,8 @@ pub record SumsUp (whole rest : Drive) (sum events : ℕ) : Type 0 where
   pub leaves : rest.left ≡ whole.left
 
 -- the same for equal rests
-rest_is : {whole rest other : Drive} {sum events : ℕ} → rest ≡ other → SumsUp whole rest sum events → SumsUp whole other
+rest_is : {whole rest other : Drive} {sum events : ℕ} → rest ≡ other → SumsUp whole rest sum events
+    → SumsUp whole other
     sum events
 rest_is {whole} {rest} {other} {sum} {events} e up = subst (λ (d : Drive). SumsUp whole d sum events) e up
 
@@ -130,7 +131,8 @@ module _ {budget : ℕ} {start w : Whole State} {index sum events : ℕ} where
       }
 
   -- an event after which the run goes on
-  pub adds : (event : Event) → HasRun budget start w index sum events → index < budget → (cycle_of w).event ≡ Some event
+  pub adds : (event : Event) → HasRun budget start w index sum events → index < budget
+      → (cycle_of w).event ≡ Some event
       → halts event ≡ false
       → HasRun budget start (soc_next w) (index + 1) ((sum + written event) % 2 ^ 32) (events + 1)
   adds event r within e h =

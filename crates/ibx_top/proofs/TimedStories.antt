@@ -1,5 +1,6 @@
 -- The run of a system whose events are a history prints the story of the time equations.
-use Rattle.std.proofs.Common.{◌≡◌, ℕ, zero, suc, ◌+◌, ◌<◌, ◌^◌, Bool, true, false, ◌||◌, ◌&&◌, ◌%◌, List, [], ◌∷◌, ◌++◌}
+use Rattle.std.proofs.Common.{◌≡◌, ℕ, zero, suc, ◌+◌, ◌<◌, ◌^◌, Bool, true, false, ◌||◌, ◌&&◌, ◌%◌, List, [], ◌∷◌}
+use Rattle.std.proofs.Common.{◌++◌}
 use Rattle.std.proofs.Common.{Option, Some, None, length, refl, sym, ap, ap₂, subst, ◌∙◌, arith}
 use Rattle.std.specs.Prelude.{flat_map, ◌==◌, if◌then◌else◌}
 use Rattle.ibx_bits.specs.Platform.{halt_register}
@@ -215,7 +216,8 @@ halted_is s budget w law low = drive_halted budget w ∙ ap (list_any halts) (la
 -- ---- the system as it is opened
 
 -- the run of a placed image from its first state is its history
-pub opened_is_history : (options : Options) (plan : PlanValue) (image : Placed) → IsPlaced (setup_of options plan image)
+pub opened_is_history : (options : Options) (plan : PlanValue) (image : Placed)
+    → IsPlaced (setup_of options plan image)
     → IsHistory (setup_of options plan image) (system_of image options plan)
 opened_is_history options plan image placed =
     let s : Setup = setup_of options plan image in two_core_laws s placed (system_of image options plan)

@@ -57,7 +57,8 @@ pub long_text : (name : List ℕ) (bounds : Bounds) (Followed : PlanValue → An
     → plan_limit < length text → IsTextAnswer name bounds Followed text (refusal 6 (too_long_line name))
 long_text name bounds Followed text more =
     let long : nat_lt plan_limit (length text) ≡ true = grind (arith, nat_tests) in
-    subst (λ (b : Bool). IsFollowedBy name b (plan_of bounds text) Followed (refusal 6 (too_long_line name))) (sym long)
+    subst (λ (b : Bool). IsFollowedBy name b (plan_of bounds text) Followed (refusal 6 (too_long_line name)))
+    (sym long)
     refl
 
 -- a plan that is refused
@@ -103,7 +104,8 @@ pair_one : (told : Option Contents) (first second : List ℕ) (options : Options
     → IsPair told first second options plan answer → IsOneOf pair_codes answer.code
 pair_one told first second options plan answer (bytes, (content, is)) =
     file_one first (nat_lt file_limit (length bytes)) (first_fault bytes options.ram)
-    (IsSecond told second options plan (image_of bytes options.ram)) answer (second_one (image_of bytes options.ram)) is
+    (IsSecond told second options plan (image_of bytes options.ram)) answer
+    (second_one (image_of bytes options.ram)) is
   where
     ran_one : (a b : Placed) (ran : Answer) → ran ≡ twinned_by options plan a b → IsOneOf pair_codes ran.code
     ran_one a b ran is =
@@ -262,7 +264,8 @@ ram_is : (told : Option Contents) (name : List ℕ) (ram : Ram) (image : Placed)
     → image.ram ≡ ram
 ram_is told name ram image is = ap (λ (i : Placed). i.ram) is.placed
 
-module _ (told : Option Contents) (first second : List ℕ) (plan : Option (List ℕ)) (options : Options) (answer : Answer)
+module _ (told : Option Contents) (first second : List ℕ) (plan : Option (List ℕ)) (options : Options)
+    (answer : Answer)
     (code : ℕ) (before after : Option (List ℕ)) (status : code ≡ answer.code)
     (text : after ≡ with_more before answer.text) (ran : IsRan answer) where
   -- both images under a plan

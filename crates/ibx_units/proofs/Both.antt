@@ -219,7 +219,8 @@ step s r memory c ok course holds b =
     let before_ : asked_by (settings_of s) y.stream c ≡ b.count =
     requested_is (settings_of s) y.stream c b.count b.words.requested in
     stepped s r memory c b.count ok course holds b
-    (middle s r.writes y b.count c (r.moves c).left (r.moves c).redirect (buffer_at s r c) v.words v.port v.tags v.lines
+    (middle s r.writes y b.count c (r.moves c).left (r.moves c).redirect (buffer_at s r c) v.words v.port
+    v.tags v.lines
     b.words (λ e. subst (λ n. 0 < n) before_ ((course c).begun e)) (course c).target)
 
 -- so both units hold the words of the course before every cycle

@@ -34,7 +34,8 @@ use Rattle.ibx_bus.specs.PortTimes.{answer_time, grant_time}
 use Rattle.ibx_plan.specs.declared.site.Wait.{Wait}
 use Rattle.ibx_time.specs.Items.{NoPortion, One, OneBad, Portions, Two, TwoBad}
 use Rattle.ibx_time.specs.Times.{done_by, done_of, may_end, stop_of}
-use Rattle.ibx_time.specs.Items.{Item, dummy_item, item_of, parcels_of, plain, portions_for, retired_item, trap_parcels}
+use Rattle.ibx_time.specs.Items.{Item, dummy_item, item_of, parcels_of, plain, portions_for, retired_item}
+use Rattle.ibx_time.specs.Items.{trap_parcels}
 use Rattle.ibx_time.specs.Search.{first_from}
 use Rattle.ibx_time.specs.Settings.{Settings, Setup, lines_in, settings_of}
 use Rattle.ibx_time.specs.Streams.{Stream, answer, redirected_to, requested}
@@ -171,7 +172,8 @@ same_move s x y c m e u = record {
   target = u.target;
   begun = λ f. subst (λ v. 0 < requested (settings_of s) v c) (sym e.stream) (u.begun f);
   few = u.few;
-  there = λ h. same_answered (settings_of s) (in_cycle (settings_of s) m c x) (in_cycle (settings_of s) m c y) m.taken c
+  there =
+      λ h. same_answered (settings_of s) (in_cycle (settings_of s) m c x) (in_cycle (settings_of s) m c y) m.taken c
       (same_in (settings_of s) m c x y e) ∙ u.there h;
 }
 

@@ -9,7 +9,8 @@ pub returns-in_err-print_line-clause-prefix : goal.returns-in_err-print_line-cla
 returns-in_err-print_line-clause-prefix g c =
     let code : List ℕ = c.loop-rest.rest.now in
     let some : 0 < length code = grind arith in
-    let said : c.as_str.result.now ≡ first_text code = c.as_str.ensures.value ∙ c.first_instruction-text.ensures.text in
+    let said : c.as_str.result.now ≡ first_text code =
+    c.as_str.ensures.value ∙ c.first_instruction-text.ensures.text in
     let so_far = subst (λ left. SoFar (g.K.Sink.taken c.args.out.now) (g.K.Sink.taken c.loop-rest.out) left
     (lines_of c.args.code.now)) (first_line code some) c.loop-rest.invariant.so_far in
     on_err c.from_residual.result (cut (first_text code ++ codes "\n") (lines_of (drop (first_size code) code)) so_far
@@ -21,7 +22,8 @@ pub loop-rest-preserved : goal.loop-rest-preserved
 loop-rest-preserved g c =
     let code : List ℕ = c.loop-rest.rest.now in
     let some : 0 < length code = grind arith in
-    let said : c.as_str.result.now ≡ first_text code = c.as_str.ensures.value ∙ c.first_instruction-text.ensures.text in
+    let said : c.as_str.result.now ≡ first_text code =
+    c.as_str.ensures.value ∙ c.first_instruction-text.ensures.text in
     let so_far = subst (λ left. SoFar (g.K.Sink.taken c.args.out.now) (g.K.Sink.taken c.loop-rest.out) left
     (lines_of c.args.code.now)) (first_line code some) c.loop-rest.invariant.so_far in
     record {

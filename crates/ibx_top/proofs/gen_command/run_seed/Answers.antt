@@ -44,10 +44,12 @@ returns-in-Ok-print_total-clause-prints g c =
             code = ap halt_code (summed.halts ∙ halted_is s options.cycles soc law low);
             line = refl;
             seal =
-                c.field_sum.ensures ∙ ap seal_of c.main.ensures ∙ ap (λ (w : Whole State). seal_of w.main) summed.leaves
+                c.field_sum.ensures ∙ ap seal_of c.main.ensures
+                ∙ ap (λ (w : Whole State). seal_of w.main) summed.leaves
                 ∙ ap (λ (w : Whole State). seal_of (drive_from options.cycles w).left.main) opened;
             text = c.in-Ok-print_total.ensures.whole ∙ ap (with_more before)
-                (told_is c.args.seed s options.cycles soc c.run_total-total.new.soc law low new summed c.cycle.ensures);
+                (told_is c.args.seed s options.cycles soc c.run_total-total.new.soc law low new summed
+                c.cycle.ensures);
           },
         ),
       );

@@ -23,7 +23,8 @@ returns-in-Ok-clause-prints g c =
 pub returns-in-Err-clause-prints : goal.returns-in-Err-clause-prints
 returns-in-Err-clause-prints g c =
     let asked = c.args.asked in
-    let Ran : Placed → Answer → Type 0 = λ b answer. answer ≡ twinned_by asked.options c.args.plan.now c.args.a.now b in
+    let Ran : Placed → Answer → Type 0 =
+    λ b answer. answer ≡ twinned_by asked.options c.args.plan.now c.args.a.now b in
     let line = fault_line asked.second.now c.in-Err.fault in
     record {
       answered = (

@@ -12,7 +12,8 @@ returns-in-Err-TooLong-clause-prints g c =
     let asked = c.args.asked in
     let (bytes, (content, more)) = longer_content (g.F.Files.contents c.args.files.now) asked.second.now file_limit
     (c.read_all.ensures.too_long (c.in-Err-TooLong.is ∙ ap Err c.in-Err-TooLong.field-0-is)) in
-    let Ran : Placed → Answer → Type 0 = λ b answer. answer ≡ twinned_by asked.options c.args.plan.now c.args.a.now b in
+    let Ran : Placed → Answer → Type 0 =
+    λ b answer. answer ≡ twinned_by asked.options c.args.plan.now c.args.a.now b in
     let line = too_long_line asked.second.now in
     record {
       answered = (

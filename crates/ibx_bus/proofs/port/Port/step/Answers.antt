@@ -25,7 +25,8 @@ returns-clause-unchanged c = λ e. c.end_cycle.ensures.memory ∙ unchanged c.en
     c.args.req.now e
 
 pub returns-clause-stores : goal.returns-clause-stores
-returns-clause-stores c = λ e. rw c.end_cycle.ensures.memory (stores c.end_cycle.result c.args.mem.now c.args.req.now e)
+returns-clause-stores c = λ e.
+    rw c.end_cycle.ensures.memory (stores c.end_cycle.result c.args.mem.now c.args.req.now e)
 
 pub returns-clause-others : goal.returns-clause-others
 returns-clause-others c = λ i ne.
