@@ -24,7 +24,8 @@ use Rattle.ibx_lsu.specs.Turns.{crosses, first_answer, reply_of, second_answer, 
 use Rattle.ibx_core.specs.declared.state.State.{State}
 use Rattle.ibx_core.specs.Core.{core_out, cycle_of, cycle_seen, cycle_with, gives, heard, is_write, out_by, out_with}
 use Rattle.ibx_core.specs.Core.{port_of, tag_word, tag_ways, write_word}
-use Rattle.ibx_core.specs.Sights.{drsp_of, sight_of, sight_with, turn_by}
+use Rattle.ibx_core.specs.Inputs.{drsp_of, inputs_of}
+use Rattle.ibx_core.specs.Sights.{sight_of, sight_with, turn_by}
 use Rattle.ibx_core.specs.Wires.{InWires}
 
 -- ---- encoded payloads
@@ -157,7 +158,7 @@ written_by None e = absurd cc
 -- a register word that is written is a codeword
 pub register_word : (x : State) (i : InWires) → (core_out x i).rw ≡ true → is_bad_word (core_out x i).rwword ≡ false
 unfolding core_out gives out_by out_with
-register_word x i = written_by (cycle_of x (heard x i)).effect.write
+register_word x i = written_by (cycle_of x (inputs_of (heard x i))).effect.write
 
 -- ---- the cache
 
@@ -193,8 +194,8 @@ pub tag_written : (x : State) (i : InWires) → (is_bad_tag (core_out x i).tword
 unfolding core_out gives out_by out_with out_of
 tag_written x i =
     let j = heard x i in
-    let c = cycle_of x j in
-    let w : WordIn = port_of x j c.request c.effect.fence in
+    let c = cycle_of x (inputs_of j) in
+    let w : WordIn = port_of x (inputs_of j) c.request c.effect.fence in
     filled_tag (filling_of x.words w) (wires_of x.words w) (alerts_of x.words w)
 
 -- what is filled has codewords
@@ -231,6 +232,6 @@ pub line_written : (x : State) (i : InWires)
 unfolding core_out gives out_by out_with out_of
 line_written x i =
     let j = heard x i in
-    let c = cycle_of x j in
-    let w : WordIn = port_of x j c.request c.effect.fence in
+    let c = cycle_of x (inputs_of j) in
+    let w : WordIn = port_of x (inputs_of j) c.request c.effect.fence in
     filled_lines (filling_of x.words w) (wires_of x.words w) (alerts_of x.words w) (good_filling x.words w)

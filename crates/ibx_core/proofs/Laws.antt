@@ -17,7 +17,8 @@ use Rattle.ibx_core.specs.Core.{Cycle, IsSameUsed, alerts_of, before_grants, cor
 use Rattle.ibx_core.specs.Core.{cycle_with, gives, granted, granted_port, heard, is_bus, is_internal, is_minor, leaves}
 use Rattle.ibx_core.specs.Core.{looks, ls_by, next_by, out_by, out_with, port_of, reads_in, reads_of, takes0, takes1}
 use Rattle.ibx_core.specs.Fields.{bit}
-use Rattle.ibx_core.specs.Sights.{drsp_of, sight_of, sight_with, turn_by}
+use Rattle.ibx_core.specs.Inputs.{drsp_of, inputs_of}
+use Rattle.ibx_core.specs.Sights.{sight_of, sight_with, turn_by}
 use Rattle.ibx_core.specs.Wires.{InWires}
 
 -- ---- unused words
@@ -92,7 +93,7 @@ unfolding core_out heard gives out_by port_of alerts_of cycle_of cycle_seen cycl
 ungranted x i igrant dgrant = refl
 
 -- a cycle is worked out before its grants
-pub seen_ungranted : (x : State) (i : InWires) → cycle_of x (before_grants i) ≡ cycle_of x i
+pub seen_ungranted : (x : State) (i : InWires) → cycle_of x (inputs_of (before_grants i)) ≡ cycle_of x (inputs_of i)
 unfolding cycle_of cycle_seen cycle_with sight_of sight_with
 seen_ungranted x i = refl
 
@@ -128,8 +129,8 @@ pub grants_last : (x : State) (i : InWires)
 unfolding core_next core_out leaves gives heard out_by out_with next_by port_of cycle_of cycle_seen cycle_with sight_of
     sight_with
 grants_last x i =
-    let c : Cycle = cycle_of x (heard x i) in
-    let port = port_granted x.words (port_of x (heard x i) c.request c.effect.fence) i.igrant in
+    let c : Cycle = cycle_of x (inputs_of (heard x i)) in
+    let port = port_granted x.words (port_of x (inputs_of (heard x i)) c.request c.effect.fence) i.igrant in
     let access = ls_granted c.sight.active c.sight.access x.ls (drsp_of (heard x i)) i.dgrant in
     λ t. record (core_next x i) { words = port t; ls = access t }
 

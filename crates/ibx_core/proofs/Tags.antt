@@ -6,8 +6,8 @@ use Rattle.ibx_secded.proofs.Laws.{encode_of-payload}
 use Rattle.ibx_icache.specs.WordPort.{has_bad, met_of}
 use Rattle.ibx_icache.proofs.States.{is_look-doing}
 use Rattle.ibx_core.specs.declared.state.State.{State}
-use Rattle.ibx_core.specs.Core.{is_minor, look_in}
-use Rattle.ibx_core.specs.Sights.{irsp_of}
+use Rattle.ibx_core.specs.Core.{is_minor}
+use Rattle.ibx_core.specs.Inputs.{irsp_of, look_in}
 use Rattle.ibx_core.specs.Wires.{InWires}
 
 -- a codeword is that of its payload

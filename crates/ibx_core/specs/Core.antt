@@ -14,7 +14,6 @@ use Rattle.ibx_prefetch.specs.declared.buffer.Head.{Head}
 use Rattle.ibx_prefetch.specs.declared.buffer.Parcel.{Parcel}
 use Rattle.ibx_prefetch.specs.declared.buffer.Prefetch.{Prefetch}
 use Rattle.ibx_prefetch.specs.Buffer.{fetch_after_answer, head_of, prefetch_next, request_of}
-use Rattle.ibx_icache.specs.declared.lookup.Look.{Look}
 use Rattle.ibx_icache.specs.declared.port.WordPort.{WordPort}
 use Rattle.ibx_icache.specs.declared.wires.CacheOut.{CacheOut}
 use Rattle.ibx_icache.specs.Doing.{doing_of, granted_by, state_of}
@@ -31,7 +30,8 @@ use Rattle.ibx_core.specs.declared.state.State.{State}
 use Rattle.ibx_core.specs.Effects.{Effect, effect_by, fences, left, redirects, target_if}
 use Rattle.ibx_core.specs.Entries.{Entry, admits_at, admits_by}
 use Rattle.ibx_core.specs.Fields.{bit}
-use Rattle.ibx_core.specs.Sights.{drsp_of, irsp_of, ra_of, rb_of, sight_of}
+use Rattle.ibx_core.specs.Inputs.{Inputs, drsp_of, inputs_of, irsp_of, look_in}
+use Rattle.ibx_core.specs.Sights.{ra_of, rb_of, sight_of}
 use Rattle.ibx_core.specs.Wires.{InWires, OutWires}
 
 -- ---- what is read, and what of the wires is used
@@ -66,18 +66,14 @@ heard x i = record i {
 
 -- ---- the cycle
 
--- the cache's words
-abbrev pub look_in : InWires → Look
-look_in i = record { tag0 = i.tag0; tag1 = i.tag1; data0 = i.data0; data1 = i.data1 }
-
 -- what the word port is handed; the cache is enabled as the events before this cycle left it
-unfoldable pub port_of : State → InWires → Option ℕ → Bool → WordIn
+unfoldable pub port_of : State → Inputs → Option ℕ → Bool → WordIn
 port_of x i request fence = record {
   request = request;
   enable = not (bit_and x.csrs.cpuctrl icache_enable == 0);
   fence = fence;
-  rsp = irsp_of i;
-  look = look_in i;
+  rsp = i.irsp;
+  look = i.look;
 }
 
 -- the next two parcels; in the cycle of a redirect none is ready
@@ -103,7 +99,7 @@ pub record Cycle : Type 0 where
   pub request : Option ℕ
 
 -- a cycle from its turn and its answer: the effect comes first, so that what enters sees its CSRs and its redirect
-unfoldable pub cycle_with : Sight → Effect → WordAns → State → InWires → Cycle
+unfoldable pub cycle_with : Sight → Effect → WordAns → State → Inputs → Cycle
 cycle_with g e ans x i = record {
   sight = g;
   effect = e;
@@ -113,11 +109,11 @@ cycle_with g e ans x i = record {
 }
 
 -- the same with the effect worked out from the stage's turn, and the answer from the word port and the cache's words
-unfoldable pub cycle_seen : Sight → State → InWires → Cycle
-cycle_seen g x i = cycle_with g (effect_by g.turn x g i.lines) (answer_of x.words (irsp_of i) (look_in i)) x i
+unfoldable pub cycle_seen : Sight → State → Inputs → Cycle
+cycle_seen g x i = cycle_with g (effect_by g.turn x g i.lines) (answer_of x.words i.irsp i.look) x i
 
--- what a cycle comes to from the fields and the wires alone
-unfoldable pub cycle_of : State → InWires → Cycle
+-- what a cycle comes to from the fields and the inputs alone
+unfoldable pub cycle_of : State → Inputs → Cycle
 cycle_of x i = cycle_seen (sight_of x i) x i
 
 -- ---- the fields after it
@@ -133,13 +129,13 @@ ls_by true (Some w) ls rsp granted = ls_next ls w rsp granted
 ls_by active access ls rsp granted = ls
 
 -- the fields after a cycle: its turn and its entry are taken over, and the two ports see the grants
-unfoldable pub next_by : Cycle → State → InWires → State
+unfoldable pub next_by : Cycle → State → Inputs → State
 next_by c x i = record {
   fetch = prefetch_next c.ans c.effect.redirect c.entry.taken x.fetch;
   words = word_port_next x.words (port_of x i c.request c.effect.fence) i.igrant;
   id = c.entry.id;
   md = md_next c.sight.turn c.sight.md;
-  ls = ls_by c.sight.active c.sight.access x.ls (drsp_of i) i.dgrant;
+  ls = ls_by c.sight.active c.sight.access x.ls i.drsp i.dgrant;
   dummies = c.entry.dummies;
   next_pc = c.effect.next_pc;
   csrs = c.effect.csrs;
@@ -169,7 +165,7 @@ fetch_side g port ans lines y = record y {
 
 -- the fields after a cycle on the wires as they are, unused words not yet replaced by 0
 unfoldable pub leaves : State → InWires → State
-leaves x i = next_by (cycle_of x i) x i
+leaves x i = next_by (cycle_of x (inputs_of i)) x (inputs_of i)
 
 -- CoreNext: the fields after a cycle
 unfoldable pub core_next : State → InWires → State
@@ -303,11 +299,11 @@ out_with o alerts r c = record {
 
 -- the same from the fields: the alerts are told by the wires that come in, not by what the cycle comes to
 unfoldable pub out_by : Cycle → State → InWires → OutWires
-out_by c x i = out_with (out_of x.words (port_of x i c.request c.effect.fence)) (alerts_of x i) (reads_of x) c
+out_by c x i = out_with (out_of x.words (port_of x (inputs_of i) c.request c.effect.fence)) (alerts_of x i) (reads_of x) c
 
 -- what the core puts out on the wires as they are, unused words not yet replaced by 0
 unfoldable pub gives : State → InWires → OutWires
-gives x i = out_by (cycle_of x i) x i
+gives x i = out_by (cycle_of x (inputs_of i)) x i
 
 -- CoreOut: what the core puts out in a cycle
 unfoldable pub core_out : State → InWires → OutWires

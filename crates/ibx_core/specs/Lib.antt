@@ -1,4 +1,5 @@
 pub mod Wires
+pub mod Inputs
 pub mod WireView
 pub mod Fields
 pub mod Flipped

@@ -8,7 +8,6 @@ use Rattle.ibx_isa.specs.declared.bus.Rsp.{Rsp}
 use Rattle.ibx_isa.specs.declared.insn.Insn.{Insn}
 use Rattle.ibx_isa.specs.declared.insn.Insn.TheVariants.{Load, Store, MulDiv, Csr, Ecall, Ebreak, Mret, Wfi}
 use Rattle.ibx_isa.specs.declared.insn.MulKind.{MulKind}
-use Rattle.ibx_isa.specs.declared.insn.MulKind.TheVariants.{Single, Fast, Slow}
 use Rattle.ibx_isa.specs.Causes.{breakpoint, fetch_fault, illegal_instruction, machine_call, user_call}
 use Rattle.ibx_isa.specs.ControlBits.{data_ind_timing}
 use Rattle.ibx_isa.specs.Cost.{md_cost_of}
@@ -36,7 +35,7 @@ use Rattle.ibx_id.specs.declared.stage.Turn.TheVariants.{Hold}
 use Rattle.ibx_id.specs.Turns.{IsWithinWidths, turn_of}
 use Rattle.ibx_core.specs.declared.sight.Sight.{Sight}
 use Rattle.ibx_core.specs.declared.state.State.{State}
-use Rattle.ibx_core.specs.Wires.{InWires}
+use Rattle.ibx_core.specs.Inputs.{Inputs}
 
 -- ---- the row, and what it reads
 
@@ -125,10 +124,6 @@ cause_of c fault row = if fault == 0 then row_cause c row else Some fetch_fault
 
 -- ---- multiplication and division
 
--- the multiplier: 0 Single, 1 Fast, 2 Slow; 3 acts as 2
-abbrev pub mul_of : ℕ → MulKind
-mul_of mul = if mul == 0 then Single else if mul == 1 then Fast else Slow
-
 -- the unit in this cycle: started in the row's first cycle, and as it was kept in a later one
 unfoldable pub md_by : Bool → Option Insn → MulDivUnit → ℕ → ℕ → Bool → MulKind → MulDivUnit
 md_by true (Some (MulDiv op rd rs1 rs2)) md a b fixed mul = start_of op a b fixed mul
@@ -154,27 +149,19 @@ is_fixed c = not (bit_and c.cpuctrl data_ind_timing == 0)
 abbrev pub fixed_in : State → Bool
 fixed_in x = x.id.kind == 1 || is_fixed x.csrs
 
--- the answers of both ports
-abbrev pub irsp_of : InWires → Rsp
-irsp_of i = record { valid = i.irsp_valid; err = i.irsp_err; word = i.irsp_word }
-
--- that of the data port
-abbrev pub drsp_of : InWires → Rsp
-drsp_of i = record { valid = i.drsp_valid; err = i.drsp_err; word = i.drsp_word }
-
 -- an access that nothing refuses, until a portion failed
 abbrev pub is_active : State → Option Access → Bool
 is_active x access = is_some_access access && refused_by x.csrs access == 0 && nat_lt x.id.phase 2
 
 -- with the row, the operands, the access, and the cause
-unfoldable pub sight_with : Option Insn → ℕ → ℕ → Option Access → Option ℕ → State → InWires → Sight
+unfoldable pub sight_with : Option Insn → ℕ → ℕ → Option Access → Option ℕ → State → Inputs → Sight
 sight_with row a b access cause x i =
-    let ls = turn_by (is_active x access) access x.ls (drsp_of i) in
+    let ls = turn_by (is_active x access) access x.ls i.drsp in
     record {
       row = row;
       a = a;
       b = b;
-      md = md_by (x.id.phase == 0) row x.md a b (fixed_in x) (mul_of i.mul);
+      md = md_by (x.id.phase == 0) row x.md a b (fixed_in x) i.mul;
       access = access;
       active = is_active x access;
       ls = ls;
@@ -184,7 +171,7 @@ sight_with row a b access cause x i =
         a = a;
         b = b;
         fixed = fixed_in x;
-        cost = cost_by row b (fixed_in x) (mul_of i.mul);
+        cost = cost_by row b (fixed_in x) i.mul;
         wake = not (bit_and i.lines x.csrs.mie == 0);
         trap = cause;
         ls_done = ls.done;
@@ -194,16 +181,14 @@ sight_with row a b access cause x i =
 
 -- a real item alone has an access and a cause
 abbrev pub access_if : Bool → Option Insn → ℕ → ℕ → Option Access
-access_if true row a b = access_by row a b
-access_if false row a b = None
+access_if real row a b = if real then access_by row a b else None
 
 -- no exception comes of a dummy, an interrupt or an empty stage
 abbrev pub cause_if : Bool → State → Option Insn → Option ℕ
-cause_if true x row = cause_of x.csrs x.id.fault row
-cause_if false x row = None
+cause_if real x row = if real then cause_of x.csrs x.id.fault row else None
 
 -- the operands are the register words on the wires without their check bits
-unfoldable pub sight_of : State → InWires → Sight
+unfoldable pub sight_of : State → Inputs → Sight
 sight_of x i =
     let a = payload_of 32 i.rega in
     let b = payload_of 32 i.regb in

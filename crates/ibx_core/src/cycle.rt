@@ -7,11 +7,12 @@ ghost use Rattle.ibx_id.specs.Turns.{IsWithinWidths};
 ghost use Rattle.ibx_id.specs.declared.stage.IdState.{IdState};
 ghost use Rattle.ibx_id.specs.declared.stage.Turn.TheVariants.{Hold};
 ghost use Rattle.ibx_core.specs.Core.{asked, before_grants, core_next, core_out, cycle_seen, fetch_side, gives};
-ghost use Rattle.ibx_core.specs.Core.{granted, head_at, leaves, look_in, ls_by, md_next, next_by, out_by, port_of};
+ghost use Rattle.ibx_core.specs.Core.{granted, head_at, leaves, ls_by, md_next, next_by, out_by, port_of};
 ghost use Rattle.ibx_core.specs.Core.{with_port};
 ghost use Rattle.ibx_core.specs.Effects.{fences, redirects, target_if};
 ghost use Rattle.ibx_core.specs.Fields.{Fits};
-ghost use Rattle.ibx_core.specs.Sights.{IsSight, irsp_of, row_of};
+ghost use Rattle.ibx_core.specs.Inputs.{inputs_of, irsp_of, look_in};
+ghost use Rattle.ibx_core.specs.Sights.{IsSight, row_of};
 
 use crate::output::{put_access, put_port, put_reads};
 use crate::sight::{Sight, data_answer};
@@ -41,7 +42,7 @@ pub fn instruction_answer(i: &In) -> Rsp
 #[inline(always)]
 #[tactic(auto, unfolding(crate::specs::Core::port_of))]
 fn cache_in(x: &State, i: &In) -> CacheIn
-    ensures value { word_in result ≡ port_of x.now i.now None false }
+    ensures value { word_in result ≡ port_of x.now (inputs_of i.now) None false }
     ensures rsp { result.rsp ≡ irsp_of i.now }
     ensures look { look_of result.tags result.lanes ≡ look_in i.now }
     ensures fits { IsInput result }
@@ -169,8 +170,8 @@ impl State {
         requires fields { Fits self.old }
         requires sight { IsSight self.old g.now }
         requires row { g.now.row ≡ row_of self.old.id }
-        ensures moved { self.new ≡ next_by (cycle_seen g.now self.old i.now) self.old (before_grants i.now) }
-        ensures output { o.new ≡ out_by (cycle_seen g.now self.old i.now) self.old i.now }
+        ensures moved { self.new ≡ next_by (cycle_seen g.now self.old (inputs_of i.now)) self.old (inputs_of (before_grants i.now)) }
+        ensures output { o.new ≡ out_by (cycle_seen g.now self.old (inputs_of i.now)) self.old i.now }
         ensures fits { Fits self.new }
         ensures fetched { o.new.iaddr % 4 ≡ 0 }
         ensures accessed { o.new.daddr % 4 ≡ 0 }

@@ -4,9 +4,10 @@ ghost use Rattle.ibx_isa.specs.WellFormed.{IsWellFormed};
 ghost use Rattle.ibx_isa.specs.Wires.{IsRequest};
 ghost use Rattle.ibx_muldiv.specs.Unit.{start_of};
 ghost use Rattle.ibx_secded.specs.Code.{payload_of};
+ghost use Rattle.ibx_core.specs.Inputs.{drsp_of, inputs_of, mul_of};
 ghost use Rattle.ibx_core.specs.Sights.{IsSight, access_by, access_if, cause_if, cause_of, cost_by};
-ghost use Rattle.ibx_core.specs.Sights.{csr_cause as csr_cause_of, drsp_of, fixed_in, is_active};
-ghost use Rattle.ibx_core.specs.Sights.{is_fixed as is_fixed_of, is_real as is_real_of, md_by, mul_of, refused_by};
+ghost use Rattle.ibx_core.specs.Sights.{csr_cause as csr_cause_of, fixed_in, is_active};
+ghost use Rattle.ibx_core.specs.Sights.{is_fixed as is_fixed_of, is_real as is_real_of, md_by, refused_by};
 ghost use Rattle.ibx_core.specs.Sights.{row_cause as row_cause_of, row_of, sight_of, sight_with, turn_by};
 
 use crate::protection::is_denied;
@@ -279,7 +280,7 @@ fn seen(
     requires row { IfSome row IsWellFormed }
     requires size { IfSome access (λ w. w.size ≤ 4) }
     requires stores { IsStore access → IsStore (access_by row a b) }
-    ensures value { result ≡ sight_with row a b access cause x.now i.now }
+    ensures value { result ≡ sight_with row a b access cause x.now (inputs_of i.now) }
     ensures row { result.row ≡ row }
     ensures fits { IsSight x.now result }
 {
@@ -316,7 +317,7 @@ impl Sight {
     #[inline(always)]
     #[tactic(auto, unfolding(crate::specs::Sights::sight_of))]
     pub fn of(x: &State, i: &In) -> Sight
-        ensures value { result ≡ sight_of x.now i.now }
+        ensures value { result ≡ sight_of x.now (inputs_of i.now) }
         ensures row { result.row ≡ row_of x.now.id }
         ensures fits { IsSight x.now result }
     {

@@ -41,7 +41,6 @@ use Rattle.ibx_time.specs.Streams.{words}
 use Rattle.ibx_time.specs.Times.{AnInstruction, done_by, made_by, portion_answer, portion_grant, portion_number}
 use Rattle.ibx_time.specs.Memories.{Write, portion_sent, sent_by, sent_with, write_of, writes_with, written_by}
 use Rattle.ibx_time.specs.History.{Story, access_at, done_at, item_at, kind_of, taken}
-use Rattle.ibx_machine.specs.Core.{is_some_access, ls_by, turn_by}
 use Rattle.ibx_arch.specs.Access.{has_second}
 use Rattle.ibx_isa.specs.Portions.{portion_addr}
 use Rattle.ibx_secded.specs.Code.{encode_of}
@@ -51,6 +50,8 @@ use Rattle.ibx_isa.specs.declared.bus.Rsp.{Rsp}
 use Rattle.ibx_lsu.specs.declared.unit.Lsu.{Lsu}
 use Rattle.ibx_lsu.specs.declared.unit.LsTurn.{LsTurn}
 use Rattle.ibx_plan.specs.declared.site.Wait.{Wait}
+use Rattle.ibx_core.specs.Sights.{is_some_access, turn_by}
+use Rattle.ibx_core.specs.Core.{ls_by}
 
 -- ---- its portions
 
@@ -349,11 +350,13 @@ active_is v id w a r (inr e) =
 -- the unit drives and answers as its own turn says
 seen_is : (v : Eyes) (id : IdState) (w : Access) (ls : Lsu) (rsp : Rsp) → v.access ≡ Some w → v.refused ≡ 0 → Early id
     → ls_seen v id ls rsp ≡ ls_turn ls w rsp
+unfolding ls_turn turn_by
 seen_is v id w ls rsp a r e = ap₂ (λ b x. turn_by b x ls rsp) (active_is v id w a r e) a
 
 -- the unit's next fields are those of its own step
 next_is : (v : Eyes) (id : IdState) (w : Access) (ls : Lsu) (rsp : Rsp) (granted : Bool) → v.access ≡ Some w
     → v.refused ≡ 0 → Early id → ls_left v id ls rsp granted ≡ ls_next ls w rsp granted
+unfolding ls_next ls_by
 next_is v id w ls rsp granted a r e = ap₂ (λ b x. ls_by b x ls rsp granted) (active_is v id w a r e) a
 
 -- the fault that the stage sees is the unit's

@@ -2,7 +2,6 @@
 -- of the buffer.
 use Rattle.std.proofs.Common.{◌≡◌, ℕ, ◌+◌, ◌<◌, ◌≤◌, true, List}
 use Rattle.ibx_muldiv.specs.Unit.{idle_of as md_idle}
-use Rattle.ibx_machine.specs.Core.{entry_by, Entry}
 use Rattle.ibx_joining.proofs.Fetches.{HeadIs}
 use Rattle.ibx_joining.proofs.Stages.{Empty, EmptyEnd, Full}
 use Rattle.ibx_joining.proofs.Ties.{Grows, IsPlaced, IsState, Tied}
@@ -20,6 +19,7 @@ use Rattle.ibx_trap.specs.Interrupts.{pending_of}
 use Rattle.ibx_csr.specs.declared.csrs.Csrs.{Csrs}
 use Rattle.ibx_lsu.specs.declared.unit.Lsu.{Lsu}
 use Rattle.ibx_prefetch.specs.declared.buffer.Head.{Head}
+use Rattle.ibx_core.specs.Entries.{entry_by, Entry}
 
 -- what is admitted after the effects of a cycle, with its interrupt lines
 abbrev pub entry_in_cycle : ℕ → Head → Csrs → Dummy → ℕ → Entry

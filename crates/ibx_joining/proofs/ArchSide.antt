@@ -3,8 +3,6 @@
 use Rattle.std.proofs.Common.{◌≡◌, ℕ, ◌+◌, ◌%◌, ◌^◌, Bool, true, false, not, ◌||◌, List, if◌then◌else◌, ◌==◌}
 use Rattle.std.proofs.Common.{slice_index, bit_and, None, Option}
 use Rattle.ibx_csr.specs.Fields.{tick_of, glitch_of}
-use Rattle.ibx_machine.specs.Core.{is_fixed, access_by, Effect, cause_of, cost_by, effect_by, is_real, ra_of, rb_of}
-use Rattle.ibx_machine.specs.Core.{refused_by, row_of, sight_of}
 use Rattle.ibx_time.specs.Times.{target_if}
 use Rattle.ibx_joining.proofs.Stages.{AreAccesses, ItemAt, PhaseAt}
 use Rattle.ibx_joining.proofs.Ties.{IsPlaced, IsState, Tied}
@@ -23,6 +21,9 @@ use Rattle.ibx_isa.specs.declared.insn.MulKind.{MulKind}
 use Rattle.ibx_csr.specs.declared.csrs.Csrs.{Csrs}
 use Rattle.ibx_arch.specs.declared.fetched.Fetched.{Fetched}
 use Rattle.ibx_arch.specs.declared.fetched.Fetched.TheVariants.{Unsound, Instruction}
+use Rattle.ibx_core.specs.Sights.{is_fixed, access_by, cause_of, cost_by, is_real, ra_of, rb_of, refused_by, row_of}
+use Rattle.ibx_core.specs.Effects.{Effect, effect_by}
+use Rattle.ibx_core.specs.Sights.{sight_of}
 
 -- ---- what the stage sees is the item
 
@@ -102,7 +103,7 @@ ArchEnds s =
     → Ends s limit t h st.cycle st.main.id st.main.md st.main.ls st.dport
     (eyes_in s st.cycle st.main.id st.main.csrs st.regs)
     → Left s limit t h st.cycle (effect_by (sight_of st.main (in_of s st)).turn st.main (sight_of st.main (in_of s st))
-    (in_of s st)) st.regs
+    (in_of s st).lines) st.regs
 
 -- ---- the parcels of an instruction, as the admission counts them
 

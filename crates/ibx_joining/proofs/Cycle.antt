@@ -32,13 +32,17 @@ use Rattle.ibx_id.specs.declared.stage.Turn.TheVariants.{Hold}
 use Rattle.ibx_id.specs.Turns.{empty_stage}
 use Rattle.ibx_id.specs.declared.stage.Turn.{Turn}
 use Rattle.ibx_id.specs.declared.stage.IdState.{IdState}
-use Rattle.ibx_machine.specs.Core.{Effect, Entry, Sight, admits_by, core_next_by, core_out_by, ls_by, md_next}
+use Rattle.ibx_machine.specs.Core.{core_out_by}
 use Rattle.ibx_machine.specs.System.{System, in_of, next_from, put_lines, put_reg, put_tags, system_by}
 use Rattle.ibx_arch.specs.Memory.{image_memory}
 use Rattle.ibx_arch.specs.Fetch.{fetch}
 use Rattle.ibx_isa.specs.declared.bus.Req.{Req}
 use Rattle.ibx_lsu.specs.declared.unit.Lsu.{Lsu}
 use Rattle.ibx_memory.specs.Coded.{HoldsMemory}
+use Rattle.ibx_core.specs.Effects.{Effect}
+use Rattle.ibx_core.specs.Entries.{Entry, admits_by}
+use Rattle.ibx_core.specs.declared.sight.Sight.{Sight}
+use Rattle.ibx_core.specs.Core.{ls_by, md_next, next_by, port_of}
 
 -- ---- the fetch side, over its own fields
 
@@ -127,11 +131,8 @@ after s st g e n =
       sight = g;
       effect = e;
       ans = ans_of st.main.words st.iport st.tags st.lines;
-      buffer = buffer_in st e;
       entry = n;
-      port =
-          seen_of (enables st.main.csrs) e.fence (turned e.redirect st.main.fetch) st.main.words st.iport st.tags
-          st.lines;
+      request = request_of (buffer_in st e);
     }) (in_of s st) st
 
 -- the load-store unit by whether its request is granted, and after the grant
@@ -175,7 +176,7 @@ inv_after : (s : Setup) (limit : ℕ) (h : Story) (o : Option ℕ) (q : ℕ) (st
     → n.dummies ≡ (with_item s h o).times.dummies
     → IsState s (st.cycle + 1) h
     → Inv s limit h o q (after s st g e n)
-unfolding system_by core_next_by core_out_by prefetch_next word_port_next wires_of in_of
+unfolding system_by next_by core_out_by port_of prefetch_next word_port_next wires_of in_of
 inv_after s limit h o q st g e n received stage words begun memory tied dummies state =
     let w2 : WordPort = issued_of (enables st.main.csrs) e.fence (turned e.redirect st.main.fetch) st.main.words
     st.iport st.tags st.lines in

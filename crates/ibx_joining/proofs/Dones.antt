@@ -5,8 +5,6 @@ use Rattle.ibx_time.specs.History.{item_by, Story, admission, choice_at, choice_
 use Rattle.ibx_time.specs.History.{event_at, item_at, kind_of, taken, view_with, with_item, words_there}
 use Rattle.ibx_time.specs.Times.{marked, target_if, ADummy, AnInstruction, AnInterrupt, Kind, admitted, after_event}
 use Rattle.ibx_time.specs.Times.{half_after, is_ready, kind_at, made_by}
-use Rattle.ibx_machine.specs.Core.{rests, access_by, Effect, Sight, effect_by, is_some_access, ls_by, md_next, ra_of}
-use Rattle.ibx_machine.specs.Core.{rb_of, row_of, sight_by, sight_of, turn_by}
 use Rattle.ibx_id.specs.Turns.{held, turn_of, empty_stage, real_turn}
 use Rattle.ibx_id.specs.declared.stage.IdState.{IdState}
 use Rattle.ibx_id.specs.declared.stage.IdIn.{IdIn}
@@ -46,6 +44,10 @@ use Rattle.ibx_csr.specs.declared.csrs.Csrs.{Csrs}
 use Rattle.ibx_lsu.specs.declared.unit.Lsu.{Lsu}
 use Rattle.ibx_lsu.specs.declared.unit.LsTurn.{LsTurn}
 use Rattle.ibx_memory.specs.Coded.{HoldsMemory}
+use Rattle.ibx_core.specs.Effects.{rests, Effect, effect_by}
+use Rattle.ibx_core.specs.Sights.{access_by, is_some_access, ra_of, rb_of, row_of, turn_by, sight_of, sight_with}
+use Rattle.ibx_core.specs.declared.sight.Sight.{Sight}
+use Rattle.ibx_core.specs.Core.{ls_by, md_next}
 
 -- ---- the sight and the effect of a cycle
 
@@ -55,7 +57,7 @@ sight_in s st = sight_of st.main (in_of s st)
 
 -- what the turn does in that cycle
 abbrev pub effect_in : Setup → System → Effect
-effect_in s st = effect_by (sight_in s st).turn st.main (sight_in s st) (in_of s st)
+effect_in s st = effect_by (sight_in s st).turn st.main (sight_in s st) (in_of s st).lines
 
 -- the same as the stage's eyes
 abbrev pub eyes : Setup → System → Eyes
@@ -64,24 +66,24 @@ eyes s st = eyes_in s st.cycle st.main.id st.main.csrs st.regs
 -- the turn, the load-store unit and the multiplier see the same through them
 pub turn_is : (s : Setup) (st : System)
     → (sight_in s st).turn ≡ turn_seen (eyes s st) st.main.id st.main.ls (answer_wires st.dport)
-unfolding sight_by in_of
+unfolding sight_of sight_with in_of
 turn_is s st = refl
 
 -- what the load-store unit drives and answers is as the stage's eyes see it
 pub ls_is : (s : Setup) (st : System)
     → (sight_in s st).ls ≡ ls_seen (eyes s st) st.main.id st.main.ls (answer_wires st.dport)
-unfolding sight_by in_of
+unfolding sight_of sight_with in_of
 ls_is s st = refl
 
 -- so is the multiplier before its tick
 pub md_is : (s : Setup) (st : System) → (sight_in s st).md ≡ md_seen s (eyes s st) st.main.id st.main.md
-unfolding sight_by in_of
+unfolding sight_of sight_with in_of
 md_is s st = refl
 
 -- and so are the unit's next fields, with a grant or without
 left_is : (s : Setup) (st : System)
     → ls_in st (sight_in s st) ≡ ls_left (eyes s st) st.main.id st.main.ls (answer_wires st.dport)
-unfolding sight_by in_of
+unfolding sight_of sight_with in_of
 left_is s st = refl
 
 -- ---- what the done leaves
@@ -101,7 +103,7 @@ rested : (s : Setup) → Phases s → (limit : ℕ) (h : Story) (o : Option ℕ)
     → TurnIs o g.turn next
     → StageMid s limit h o st.cycle next (md_next g.turn g.md) g.ls.req (ls_in st g) st.dport
     → Middle s limit h o q st g (rests st.main)
-unfolding turned tick_of
+unfolding turned tick_of rests
 rested s ph limit h o q st g next i turn stage =
     let still : StillTied s h (st.cycle + 1) st.main.next_pc (tick_of st.main.csrs false None) st.regs =
     ph.arch_rests h st.cycle st.main.next_pc st.main.csrs st.regs i.tied i.state in
@@ -137,27 +139,30 @@ no_access id csrs rega regb lines mul e =
 -- without an access the load-store unit drives nothing and ends nothing
 no_turn : (access : Option Access) (r p : Bool) (ls : Lsu) (rsp : Rsp) → access ≡ None
     → turn_by (is_some_access access && r && p) access ls rsp ≡ awaits
+unfolding turn_by
 no_turn access r p ls rsp e = ap (λ a. turn_by (is_some_access a && r && p) a ls rsp) e
 
 -- without an access the load-store unit keeps its fields, with a grant or without
 no_next : (access : Option Access) (r p : Bool) (ls : Lsu) (rsp : Rsp) (granted : Bool) → access ≡ None
     → ls_by (is_some_access access && r && p) access ls rsp granted ≡ ls
+unfolding ls_by
 no_next access r p ls rsp granted e = ap (λ a. ls_by (is_some_access a && r && p) a ls rsp granted) e
 
 -- a turn without an end has the effects of a cycle at rest
 rests_in : (s : Setup) (st : System) → (sight_in s st).turn ≡ Idle → effect_in s st ≡ rests st.main
 unfolding effect_by
-rests_in s st e = ap (λ t. effect_by t st.main (sight_in s st) (in_of s st)) e
+rests_in s st e = ap (λ t. effect_by t st.main (sight_in s st) (in_of s st).lines) e
 
 -- a turn that holds an item has the effects of a cycle at rest too
 holds_in : (s : Setup) (st : System) (next : IdState) → (sight_in s st).turn ≡ Hold next
     → effect_in s st ≡ rests st.main
 unfolding effect_by
-holds_in s st next e = ap (λ t. effect_by t st.main (sight_in s st) (in_of s st)) e
+holds_in s st next e = ap (λ t. effect_by t st.main (sight_in s st) (in_of s st).lines) e
 
 -- so a stage that is empty stays so until the admission
 stays_empty : (s : Setup) → Phases s → (limit : ℕ) (h : Story) (q : ℕ) (st : System) → Inv s limit h None q st
     → Done s limit h st (sight_in s st) (effect_in s st)
+unfolding rests
 stays_empty s ph limit h q st i =
     let g : Sight = sight_in s st in
     let v : Eyes = eyes s st in
@@ -389,6 +394,7 @@ stays_on : (s : Setup) → Phases s → (limit t : ℕ) (h : Story) (q : ℕ) (s
     (ls_seen (eyes s st) st.main.id st.main.ls (answer_wires st.dport)).req
     (ls_left (eyes s st) st.main.id st.main.ls (answer_wires st.dport)) st.dport
     → Done s limit h st (sight_in s st) (effect_in s st)
+unfolding rests
 stays_on s ph limit t h q st next i turn m =
     let g : Sight = sight_in s st in
     let hold : g.turn ≡ Hold next = turn_is s st ∙ turn in

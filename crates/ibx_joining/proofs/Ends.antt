@@ -34,7 +34,6 @@ use Rattle.ibx_time.specs.Requests.{Transaction}
 use Rattle.ibx_time.specs.Times.{ADummy, AnInstruction, AnInterrupt, done_by, made_by, may_end}
 use Rattle.ibx_time.specs.Memories.{Write, sent_by, sent_with, write_of, writes_with, written_by}
 use Rattle.ibx_time.specs.History.{Story, access_at, choice_by, done_at, item_at, kind_of, taken}
-use Rattle.ibx_machine.specs.Core.{is_some_access, ls_by, md_by, md_next, turn_by}
 use Rattle.ibx_arch.specs.State.{reg}
 use Rattle.ibx_isa.specs.declared.insn.Insn.{Insn}
 use Rattle.ibx_isa.specs.declared.insn.MdOp.{MdOp}
@@ -45,6 +44,8 @@ use Rattle.ibx_lsu.specs.declared.unit.Lsu.{Lsu}
 use Rattle.ibx_lsu.specs.declared.unit.LsTurn.{LsTurn}
 use Rattle.ibx_plan.specs.declared.site.Wait.{Wait}
 use Rattle.ibx_isa.specs.declared.insn.Insn.TheVariants.{MulDiv, Wfi}
+use Rattle.ibx_core.specs.Sights.{is_some_access, md_by, turn_by, row_of}
+use Rattle.ibx_core.specs.Core.{ls_by, md_next}
 
 -- ---- searches
 
@@ -91,11 +92,13 @@ quiet_ls s t h c ls p e (failed b k l at i) =
 -- a unit that isn't at work asks for nothing and stays
 pub inactive_turn : (b : Bool) (access : Option Access) (ls : Lsu) (rsp : Rsp) → b ≡ false
     → turn_by b access ls rsp ≡ awaits
+unfolding turn_by
 inactive_turn b access ls rsp e = ap (λ k. turn_by k access ls rsp) e
 
 -- a unit that isn't at work keeps its fields, with a grant or without
 pub inactive_next : (b : Bool) (access : Option Access) (ls : Lsu) (rsp : Rsp) (granted : Bool) → b ≡ false
     → ls_by b access ls rsp granted ≡ ls
+unfolding ls_by
 inactive_next b access ls rsp granted e = ap (λ k. ls_by k access ls rsp granted) e
 
 -- ---- what is written and sent
@@ -256,6 +259,7 @@ plain_early id v over fault e k =
 -- the multiplier rests for any other row
 md_rest : (b : Bool) (row : Option Insn) (md : MulDivUnit) (a c : ℕ) (fixed : Bool) (mul : MulKind) → is_md row ≡ false
     → md_by b row md a c fixed mul ≡ md_idle
+unfolding md_idle md_by
 md_rest true (Some (MulDiv op rd rs1 rs2)) md a c fixed mul e = let no_ : true ≡ false = e in cc
 md_rest false (Some (MulDiv op rd rs1 rs2)) md a c fixed mul e = let no_ : true ≡ false = e in cc
 md_rest true row md a c fixed mul e = refl
@@ -263,7 +267,7 @@ md_rest false row md a c fixed mul e = refl
 
 -- an idle multiplier stays idle while the item is held
 held_idle : (next : IdState) → md_next (Hold next) md_idle ≡ md_idle
-unfolding md_idle
+unfolding md_idle md_next
 held_idle next = refl
 
 -- a search that begins where its test holds ends there
@@ -282,11 +286,13 @@ ticks_more (suc n) m = ticks_more n (md_tick m)
 md_start : (b : Bool) (row : Option Insn) (md : MulDivUnit) (a c : ℕ) (fixed : Bool) (mul : MulKind) (op : MdOp)
     (rd rs1 rs2 : ℕ) → b ≡ true → row ≡ Some (MulDiv op rd rs1 rs2)
     → md_by b row md a c fixed mul ≡ start_of op a c fixed mul
+unfolding start_of md_by
 md_start b row md a c fixed mul op rd rs1 rs2 e r = ap₂ (λ k x. md_by k x md a c fixed mul) e r
 
 -- after the first cycle of an M row the unit goes on with what it has
 md_kept : (b : Bool) (row : Option Insn) (md : MulDivUnit) (a c : ℕ) (fixed : Bool) (mul : MulKind) (op : MdOp)
     (rd rs1 rs2 : ℕ) → b ≡ false → row ≡ Some (MulDiv op rd rs1 rs2) → md_by b row md a c fixed mul ≡ md
+unfolding md_by
 md_kept b row md a c fixed mul op rd rs1 rs2 e r = ap₂ (λ k x. md_by k x md a c fixed mul) e r
 
 -- a start by equal operands is the same
@@ -383,6 +389,7 @@ md_value s limit t h c id md v op rd rs1 rs2 state sees phase (works op2 rd2 a2 
 
 -- it ticks while the item is held, as long as cycles are left
 held_ticks : (next : IdState) (m : MulDivUnit) → left_of m ≢ 0 → md_next (Hold next) m ≡ md_tick m
+unfolding md_next md_tick
 held_ticks next m ne = rw (ne_eqb (left_of m) 0 ne) refl
 
 -- one cycle more in the stage
@@ -390,6 +397,7 @@ pub work_next : (s : Setup) (limit t : ℕ) (h : Story) (c : ℕ) (id : IdState)
     (row : Option Insn) → IsState s c h → Sees s t h c id v → PhaseAt s limit t h c id.phase → WorkAt s t h c id md
     → v.row ≡ row → (is_md row ≡ true → c < t + 1 + (item_at s t h).cost)
     → WorkAt s t h (c + 1) (held phase id) (md_next (Hold (held phase id)) (md_seen s v id md))
+unfolding row_of
 work_next s limit t h c id md v phase (Some (MulDiv op rd rs1 rs2)) state sees at work row less =
     let m : MdValue s t h c id md v op rs1 rs2 = md_value s limit t h c id md v op rd rs1 rs2 state sees at work row in
     let x : MulDivUnit = md_seen s v id md in

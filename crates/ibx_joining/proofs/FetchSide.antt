@@ -22,11 +22,11 @@ use Rattle.ibx_time.specs.Controls.{Ctl, enables_cache}
 use Rattle.ibx_time.specs.Streams.{Stream, issue, past, redirected}
 use Rattle.ibx_time.specs.Memories.{Write, memory_at}
 use Rattle.ibx_time.specs.BusLines.{wires_at}
-use Rattle.ibx_machine.specs.Core.{is_flipped}
 use Rattle.ibx_machine.specs.System.{line_place, put_lines, put_tags, set_slot}
 use Rattle.ibx_arch.specs.Memory.{image_memory}
 use Rattle.ibx_isa.specs.declared.bus.Req.{Req}
 use Rattle.ibx_memory.specs.Coded.{HoldsMemory}
+use Rattle.ibx_core.specs.Core.{is_flipped}
 
 -- ---- what the word port sees
 

@@ -18,45 +18,66 @@ use Rattle.ibx_joining.proofs.Dones.{Done, after_done, effect_in, off, on, sight
 use Rattle.ibx_bus.specs.Port.{PortState}
 use Rattle.ibx_bus.specs.PortTimes.{answer_time, grant_time}
 use Rattle.ibx_time.specs.Search.{first_from}
-use Rattle.ibx_time.specs.Settings.{Setup, settings_of}
+use Rattle.ibx_time.specs.Settings.{Setup, settings_of, lines_in}
 use Rattle.ibx_time.specs.Items.{NoPortion, One, OneBad, Portions, Two, TwoBad}
 use Rattle.ibx_time.specs.Times.{done_by, done_of, is_ready, kind_at, may_end, portion_answer, stop_of}
 use Rattle.ibx_icache.specs.WordPort.{wires_of}
 use Rattle.ibx_id.specs.declared.stage.IdState.{IdState}
-use Rattle.ibx_machine.specs.Core.{core_out_by, cycle_of, cycle_with}
+use Rattle.ibx_machine.specs.Core.{core_out_by}
 use Rattle.ibx_machine.specs.Whole.{steps}
 use Rattle.ibx_isa.specs.declared.event.Access.{Access}
 use Rattle.ibx_isa.specs.declared.event.Event.{Event}
 use Rattle.ibx_lsu.specs.declared.unit.Lsu.{Lsu}
 use Rattle.ibx_plan.specs.declared.site.Wait.{Wait}
+use Rattle.ibx_core.specs.Core.{Cycle, cycle_of, cycle_seen, cycle_with, port_of}
+use Rattle.ibx_core.specs.Effects.{Effect}
+use Rattle.ibx_core.specs.Entries.{Entry, admits_by}
+use Rattle.ibx_joining.proofs.Entries.{entry_is}
+use Rattle.ibx_prefetch.specs.Buffer.{fetch_after_answer, head_of, request_of}
+use Rattle.ibx_prefetch.specs.declared.buffer.Prefetch.{Prefetch}
+use Rattle.ibx_prefetch.specs.declared.buffer.WordAns.{WordAns}
 
 -- ---- the step of the system, by its sight, its effect and its entry
+
+-- the cycle with what enters, and with the buffer whose next word is requested
+abbrev made : Setup → System → Entry → Prefetch → Cycle
+made s st n f = record {
+  sight = sight_in s st;
+  effect = effect_in s st;
+  ans = ans_of st.main.words st.iport st.tags st.lines;
+  entry = n;
+  request = request_of f;
+}
 
 -- the system after a step, its event and its wires, by what it sees, does and admits
 next_is : (s : Setup) (st : System) → Receives st (effect_in s st)
     → system_next s st ≡ after s st (sight_in s st) (effect_in s st)
     (entry_after s st (sight_in s st) (effect_in s st))
-unfolding system_next cycle_of cycle_with in_of
-next_is s st r = ap (λ f. next_from
-    (cycle_with (sight_in s st) (effect_in s st) (ans_of st.main.words st.iport st.tags st.lines) f st.main
-    (in_of s st)) (in_of s st) st) r
+unfolding system_next cycle_of cycle_seen cycle_with in_of
+next_is s st r =
+    let e : Effect = effect_in s st in
+    let ans : WordAns = ans_of st.main.words st.iport st.tags st.lines in
+    let lines : ℕ = lines_in (settings_of s) st.cycle in
+    ap (λ n. next_from (made s st n (fetch_after_answer ans e.redirect st.main.fetch)) (in_of s st) st)
+    (sym (entry_is (sight_in s st).turn ans st.main.fetch e lines))
+    ∙ ap (λ f. next_from (made s st (admits_by (sight_in s st).turn (head_of f) e lines) f) (in_of s st) st) r
 
 -- the event that a step shows is that of its effect, at the cycle's number
 happens_is : (s : Setup) (st : System) → (shown_of s st).happens ≡ happens_at st.cycle (effect_in s st).happens
-unfolding shown_of core_out_by cycle_of cycle_with
+unfolding shown_of core_out_by cycle_of cycle_seen cycle_with
 happens_is s st = refl
 
 -- the wires of the fetch port are those of the word port after the issue
 fetch_is : (s : Setup) (st : System) → Receives st (effect_in s st)
     → (shown_of s st).fetch ≡ fetch_wires_in st (effect_in s st)
-unfolding shown_of core_out_by cycle_of cycle_with wires_of in_of
-fetch_is s st r = ap (λ f. (core_out_by
-    (cycle_with (sight_in s st) (effect_in s st) (ans_of st.main.words st.iport st.tags st.lines) f st.main
-    (in_of s st)) st.main (in_of s st)).fetch) r
+unfolding shown_of core_out_by cycle_of cycle_seen cycle_with port_of wires_of in_of
+fetch_is s st r =
+    ap (λ f. (core_out_by (made s st (entry_after s st (sight_in s st) (effect_in s st)) f) st.main (in_of s st)).fetch)
+    r
 
 -- the wires of the data port are those that the load-store unit drives
 load_store_is : (s : Setup) (st : System) → (shown_of s st).load_store ≡ (sight_in s st).ls.req
-unfolding shown_of core_out_by cycle_of cycle_with
+unfolding shown_of core_out_by cycle_of cycle_seen cycle_with
 load_store_is s st = refl
 
 -- ---- what a cycle comes to

@@ -10,6 +10,7 @@ pub mod StageSide
 pub mod ArchSide
 pub mod AdmitSide
 pub mod Phases
+pub mod Entries
 pub mod Pieces
 pub mod Receives
 pub mod Cycle

@@ -30,11 +30,13 @@ use Rattle.ibx_icache.specs.declared.doing.Doing.TheVariants.{Answers, AsksBare,
 use Rattle.ibx_icache.specs.declared.doing.Doing.TheVariants.{AwaitsFirst, AwaitsSecond, Looks, Rests}
 use Rattle.ibx_icache.specs.Doing.{wires_by}
 use Rattle.ibx_icache.specs.declared.doing.Doing.{Doing}
-use Rattle.ibx_machine.specs.Core.{Effect, admits_by, md_next}
 use Rattle.ibx_arch.specs.Memory.{Memory, with_bytes}
 use Rattle.ibx_csr.specs.Fields.{values}
 use Rattle.ibx_csr.specs.Values.{CsrValues, counters_after}
 use Rattle.ibx_csr.specs.declared.csrs.Csrs.{Csrs}
+use Rattle.ibx_core.specs.Effects.{Effect}
+use Rattle.ibx_core.specs.Entries.{admits_by, admits_at}
+use Rattle.ibx_core.specs.Core.{md_next}
 
 -- ---- memory
 
@@ -98,7 +100,7 @@ is_over turn = true
 -- after an empty stage the entry is the admission's, after a held item it is that item, and the multiplier rests
 pub over_admits : (turn : Turn) (head : Head) (e : Effect) (lines : ℕ) → is_over turn ≡ true
     → admits_by turn head e lines ≡ entry_in_cycle lines head e.csrs e.dummies e.next_pc
-unfolding admits_by
+unfolding admits_at values
 over_admits Idle head e lines k = refl
 over_admits (Hold next) head e lines k = let no_ : false ≡ true = k in cc
 over_admits (Retire redirect) head e lines k = refl
@@ -109,11 +111,12 @@ over_admits Dummy head e lines k = refl
 -- an item that is held takes no parcel, and leaves the dummies as the effects say
 pub hold_admits : (turn : Turn) (next : IdState) (head : Head) (e : Effect) (lines : ℕ) → turn ≡ Hold next
     → admits_by turn head e lines ≡ record { id = next; taken = 0; dummies = e.dummies }
-unfolding admits_by
+unfolding admits_at values
 hold_admits turn next head e lines k = ap (λ t. admits_by t head e lines) k
 
 -- the multiplier is idle once the stage is empty
 pub over_md : (turn : Turn) (md : MulDivUnit) → is_over turn ≡ true → md_next turn md ≡ md_idle
+unfolding md_idle md_next
 over_md Idle md k = refl
 over_md (Hold next) md k = let no_ : false ≡ true = k in cc
 over_md (Retire redirect) md k = refl

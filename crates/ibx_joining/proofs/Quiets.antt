@@ -20,7 +20,6 @@ use Rattle.ibx_time.specs.Streams.{Stream, last_of}
 use Rattle.ibx_time.specs.Memories.{Write, memory_at}
 use Rattle.ibx_time.specs.History.{Story}
 use Rattle.ibx_icache.specs.declared.port.WordPort.{WordPort}
-use Rattle.ibx_machine.specs.Core.{is_flipped}
 use Rattle.ibx_arch.specs.Memory.{Memory, image_memory, offset_from, read_byte, read_bytes, with_bytes}
 use Rattle.ibx_bits.specs.Bytes.{bytes_number}
 use Rattle.ibx_isa.specs.Portions.{portion_addr}
@@ -28,6 +27,7 @@ use Rattle.ibx_secded.specs.Code.{encode_of, syndrome_of}
 use Rattle.ibx_elf.specs.Ram.{ram_has}
 use Rattle.ibx_isa.specs.declared.event.Access.{Access}
 use Rattle.ibx_lsu.specs.declared.unit.Lsu.{Lsu}
+use Rattle.ibx_core.specs.Core.{is_flipped}
 
 -- ---- bytes and words below their bounds
 

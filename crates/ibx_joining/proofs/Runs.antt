@@ -23,7 +23,7 @@ use Rattle.ibx_time.specs.History.{Story, Told, admission, continued, done_at, k
 use Rattle.ibx_time.specs.History.{told_below, with_item, words_there}
 use Rattle.ibx_time.specs.BusLines.{BusLine, bus_line, fetches, wires_at}
 use Rattle.ibx_time.proofs.Times.{requested_is}
-use Rattle.ibx_machine.specs.Core.{core_out_by, is_flipped, ra_of, rb_of}
+use Rattle.ibx_machine.specs.Core.{core_out_by}
 use Rattle.ibx_machine.specs.Whole.{HasEvents, HasWires, HoldsValues, HoldsWords, IsQuiet, ShowsHistory, shown_in}
 use Rattle.ibx_machine.specs.Whole.{staged_in, steps, system_at}
 use Rattle.ibx_csr.specs.Fields.{glitch_of, values}
@@ -32,6 +32,8 @@ use Rattle.ibx_secded.specs.Code.{syndrome_of}
 use Rattle.ibx_isa.specs.declared.bus.Req.{Req}
 use Rattle.ibx_lsu.specs.declared.unit.Lsu.{Lsu}
 use Rattle.ibx_id.specs.declared.stage.IdState.{IdState}
+use Rattle.ibx_core.specs.Core.{is_flipped}
+use Rattle.ibx_core.specs.Sights.{ra_of, rb_of}
 
 -- the cycle counts the steps from reset
 first_cycle : (s : Setup) → (first_system s).cycle ≡ 0
@@ -151,7 +153,7 @@ shows_history s ph ok c low =
 
 -- with the invariant the registers and the words of RAM are the codewords of the history's values
 holds_by : (s : Setup) (c : ℕ) (h : Story) (o : Option ℕ) (q : ℕ) (st : System) → Inv s c h o q st → st.cycle ≡ c
-    → open_item s c h ≡ o → HoldsWords s c st h (with_item s h (open_item s c h))
+    → open_item s c h ≡ o → HoldsWords s c st.regs st.mem.words h (with_item s h (open_item s c h))
 holds_by s c h o q st i at same =
     let memory : MemoryAt s (with_item s h (open_item s c h)) c st.mem =
     subst (λ d. MemoryAt s (with_item s h (open_item s c h)) d st.mem) at

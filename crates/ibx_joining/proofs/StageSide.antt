@@ -26,7 +26,6 @@ use Rattle.ibx_id.specs.Turns.{ends_at, is_some_cause, turn_of, worked}
 use Rattle.ibx_id.specs.declared.stage.Turn.{Turn}
 use Rattle.ibx_id.specs.declared.stage.IdState.{IdState}
 use Rattle.ibx_id.specs.declared.stage.IdIn.{IdIn}
-use Rattle.ibx_machine.specs.Core.{is_flipped, is_some_access, ls_by, md_by, md_next, row_of, turn_by}
 use Rattle.ibx_arch.specs.State.{reg}
 use Rattle.ibx_arch.specs.Access.{has_second}
 use Rattle.ibx_isa.specs.Portions.{portion_addr}
@@ -37,6 +36,8 @@ use Rattle.ibx_isa.specs.declared.bus.Req.{Req}
 use Rattle.ibx_isa.specs.declared.bus.Rsp.{Rsp}
 use Rattle.ibx_lsu.specs.declared.unit.Lsu.{Lsu}
 use Rattle.ibx_lsu.specs.declared.unit.LsTurn.{LsTurn}
+use Rattle.ibx_core.specs.Core.{is_flipped, ls_by, md_next}
+use Rattle.ibx_core.specs.Sights.{is_some_access, md_by, row_of, turn_by}
 
 -- ---- what the stage sees
 

@@ -6,7 +6,6 @@ use Rattle.ibx_muldiv.specs.Unit.{idle_of as md_idle, left_of, start_of, ticks}
 use Rattle.ibx_lsu.specs.Turns.{idle_of as ls_idle, asked_first, asked_second}
 use Rattle.ibx_isa.specs.Wires.{request_of, no_request}
 use Rattle.ibx_time.specs.Controls.{is_fixed}
-use Rattle.ibx_machine.specs.Core.{row_of}
 use Rattle.ibx_time.specs.Shown.{staged_by}
 use Rattle.ibx_joining.proofs.Fetches.{is_unmapped}
 use Rattle.ibx_joining.proofs.Links.{Ask}
@@ -36,6 +35,7 @@ use Rattle.ibx_lsu.specs.declared.unit.Lsu.{Lsu}
 use Rattle.ibx_arch.specs.declared.fetched.Fetched.{Fetched}
 use Rattle.ibx_arch.specs.declared.fetched.Fetched.TheVariants.{Unsound, Instruction}
 use Rattle.ibx_isa.specs.declared.insn.Insn.TheVariants.{MulDiv}
+use Rattle.ibx_core.specs.Sights.{row_of}
 
 -- ---- what an item is
 

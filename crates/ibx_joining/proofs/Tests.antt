@@ -10,7 +10,6 @@ use Rattle.ibx_time.specs.Streams.{words, Stream, answer, issue, last_of, past, 
 use Rattle.ibx_time.specs.Times.{target_if, ADummy, AnInstruction, AnInterrupt, Kind, is_ready, kind_at, made_by}
 use Rattle.ibx_time.specs.Times.{may_end, stop_of, done_by, done_of, has_answered, after_event, admitted, first_times}
 use Rattle.ibx_bus.proofs.Ports.{place_of}
-use Rattle.ibx_machine.specs.Core.{row_of, Core, Effect, is_some_access}
 use Rattle.ibx_arch.specs.State.{at_cycle}
 use Rattle.ibx_time.specs.Items.{NoPortion, Item, One, OneBad, Portions, Two, TwoBad, portions_by, dummy_item, item_of}
 use Rattle.ibx_time.specs.Items.{retired_item}
@@ -89,6 +88,10 @@ use Rattle.ibx_id.specs.Turns.{ends_at, worked}
 use Rattle.ibx_id.specs.declared.stage.Turn.{Turn}
 use Rattle.ibx_id.specs.declared.stage.IdState.{IdState}
 use Rattle.ibx_prefetch.specs.Buffer as prefetch_Buffer
+use Rattle.ibx_core.specs.Sights as core_Sights
+use Rattle.ibx_core.specs.Effects as core_Effects
+use Rattle.ibx_core.specs.Entries as core_Entries
+use Rattle.ibx_core.specs.Core as core_Core
 use Rattle.ibx_machine.specs.Core as machine_Core
 use Rattle.ibx_id.specs.Turns as id_Turns
 use Rattle.ibx_machine.specs.System as machine_System
@@ -104,6 +107,9 @@ use Rattle.ibx_muldiv.specs.Unit as muldiv_Unit
 use Rattle.ibx_bus.specs.Memory as bus_Memory
 use Rattle.ibx_bus.specs.Port as bus_Port
 use Rattle.ibx_secded.specs.Code as secded_Code
+use Rattle.ibx_core.specs.Sights.{row_of, is_some_access}
+use Rattle.ibx_core.specs.declared.state.State.{State as Core}
+use Rattle.ibx_core.specs.Effects.{Effect}
 
 -- the number of a test that fails
 abbrev check : ℕ → Bool → List ℕ
@@ -751,24 +757,30 @@ unfolding wires_at bus_line story_after ctl_after dummy_word dummy_cost brought_
     grant_time answer_time lib.Count.count_trailing_zeros lib.Count.count_leading_zeros prefetch_Buffer.fetch_reset
     prefetch_Buffer.turned prefetch_Buffer.pushed prefetch_Buffer.received prefetch_Buffer.head_of
     prefetch_Buffer.request_of prefetch_Buffer.requested prefetch_Buffer.popped prefetch_Buffer.prefetch_next
-    machine_Core.cause_of machine_Core.sight_by machine_Core.retired_by machine_Core.effect_by machine_Core.fetched_by
-    machine_Core.entry_by machine_Core.admits_by machine_Core.cycle_with machine_Core.cycle_of
-    machine_Core.core_next_by machine_Core.core_out_by id_Turns.worked id_Turns.real_turn id_Turns.turn_of
-    machine_System.image_words machine_System.first_system machine_System.in_of machine_System.system_by
-    machine_System.shown_of machine_System.system_next machine_System.run machine_Whole.steps icache_WordPort.reset_of
-    icache_Doing.doing_of icache_WordPort.is_hit icache_WordPort.found_word icache_WordPort.victim_of
-    icache_Doing.answers_by icache_WordPort.entry_by icache_WordPort.answer_of icache_WordPort.gone_by
-    icache_WordPort.begun_by icache_Doing.wires_by icache_Doing.granted_by icache_WordPort.wires_of
-    icache_WordPort.word_port_next icache_WordPort.filling_of csr_Fields.values csr_Fields.reset_of csr_Fields.put_of
-    csr_Fields.write_of csr_Fields.tick_of csr_Fields.with_regs csr_Fields.glitch_of lsu_Turns.turn_of
-    lsu_Turns.next_of muldiv_Operands.operands_of muldiv_Steps.multiplied muldiv_Steps.divided
-    muldiv_Steps.division_step muldiv_Steps.step_of muldiv_Steps.begun_product muldiv_Steps.begun_division
-    muldiv_Unit.seen muldiv_Unit.packed muldiv_Unit.idle_of muldiv_Unit.start_of muldiv_Unit.tick_of
-    muldiv_Unit.result_of muldiv_Unit.ticks bus_Memory.merged bus_Memory.stored_word bus_Memory.memory_next
-    bus_Port.answer_wires bus_Port.port_moves secded_Code.weight secded_Code.numbers_of_weight secded_Code.columns
-    secded_Code.column secded_Code.checks secded_Code.syndrome_of secded_Code.encode_of secded_Code.rewrite_of walk
-    facts_of facts_by arch_facts memory_from stage_facts fetch_facts work_test cache_from turn_facts end_facts
-    left_facts middle_facts mid_facts answer_facts issue_facts wired_test trap_phase fetched place_of
+    core_Sights.row_of core_Sights.ra_of core_Sights.rb_of core_Sights.access_by core_Sights.is_denied
+    core_Sights.refused_by core_Sights.turn_by core_Sights.csr_cause core_Sights.row_cause core_Sights.cause_of
+    core_Sights.md_by core_Sights.cost_by core_Effects.plain_outcome core_Effects.csr_written core_Effects.csr_outcome
+    core_Effects.outcome_by core_Effects.retires core_Effects.rests core_Effects.fails core_Effects.portion_fails
+    core_Effects.cause_fails core_Effects.interrupts core_Effects.effect_by core_Entries.fetched_by
+    core_Entries.may_execute core_Entries.fetched_of core_Entries.entry_by core_Entries.admits_at core_Core.md_next
+    core_Core.ls_by core_Sights.sight_with core_Sights.sight_of core_Core.port_of core_Core.head_at
+    core_Core.cycle_with core_Core.cycle_seen core_Core.cycle_of core_Core.next_by machine_Core.core_out_by
+    id_Turns.worked id_Turns.real_turn id_Turns.turn_of machine_System.image_words machine_System.first_system
+    machine_System.in_of machine_System.system_by machine_System.shown_of machine_System.system_next machine_System.run
+    machine_Whole.steps icache_WordPort.reset_of icache_Doing.doing_of icache_WordPort.is_hit
+    icache_WordPort.found_word icache_WordPort.victim_of icache_Doing.answers_by icache_WordPort.entry_by
+    icache_WordPort.answer_of icache_WordPort.gone_by icache_WordPort.begun_by icache_Doing.wires_by
+    icache_Doing.granted_by icache_WordPort.wires_of icache_WordPort.word_port_next icache_WordPort.filling_of
+    csr_Fields.values csr_Fields.reset_of csr_Fields.put_of csr_Fields.write_of csr_Fields.tick_of csr_Fields.with_regs
+    csr_Fields.glitch_of lsu_Turns.turn_of lsu_Turns.next_of muldiv_Operands.operands_of muldiv_Steps.multiplied
+    muldiv_Steps.divided muldiv_Steps.division_step muldiv_Steps.step_of muldiv_Steps.begun_product
+    muldiv_Steps.begun_division muldiv_Unit.seen muldiv_Unit.packed muldiv_Unit.idle_of muldiv_Unit.start_of
+    muldiv_Unit.tick_of muldiv_Unit.result_of muldiv_Unit.ticks bus_Memory.merged bus_Memory.stored_word
+    bus_Memory.memory_next bus_Port.answer_wires bus_Port.port_moves secded_Code.weight secded_Code.numbers_of_weight
+    secded_Code.columns secded_Code.column secded_Code.checks secded_Code.syndrome_of secded_Code.encode_of
+    secded_Code.rewrite_of walk facts_of facts_by arch_facts memory_from stage_facts fetch_facts work_test cache_from
+    turn_facts end_facts left_facts middle_facts mid_facts answer_facts issue_facts wired_test trap_phase fetched
+    place_of
 mixed_is = refl
 
 -- the second run: the single-cycle multiplier, and an interrupt line from cycle 100 on
@@ -845,24 +857,30 @@ unfolding wires_at bus_line story_after ctl_after dummy_word dummy_cost brought_
     grant_time answer_time lib.Count.count_trailing_zeros lib.Count.count_leading_zeros prefetch_Buffer.fetch_reset
     prefetch_Buffer.turned prefetch_Buffer.pushed prefetch_Buffer.received prefetch_Buffer.head_of
     prefetch_Buffer.request_of prefetch_Buffer.requested prefetch_Buffer.popped prefetch_Buffer.prefetch_next
-    machine_Core.cause_of machine_Core.sight_by machine_Core.retired_by machine_Core.effect_by machine_Core.fetched_by
-    machine_Core.entry_by machine_Core.admits_by machine_Core.cycle_with machine_Core.cycle_of
-    machine_Core.core_next_by machine_Core.core_out_by id_Turns.worked id_Turns.real_turn id_Turns.turn_of
-    machine_System.image_words machine_System.first_system machine_System.in_of machine_System.system_by
-    machine_System.shown_of machine_System.system_next machine_System.run machine_Whole.steps icache_WordPort.reset_of
-    icache_Doing.doing_of icache_WordPort.is_hit icache_WordPort.found_word icache_WordPort.victim_of
-    icache_Doing.answers_by icache_WordPort.entry_by icache_WordPort.answer_of icache_WordPort.gone_by
-    icache_WordPort.begun_by icache_Doing.wires_by icache_Doing.granted_by icache_WordPort.wires_of
-    icache_WordPort.word_port_next icache_WordPort.filling_of csr_Fields.values csr_Fields.reset_of csr_Fields.put_of
-    csr_Fields.write_of csr_Fields.tick_of csr_Fields.with_regs csr_Fields.glitch_of lsu_Turns.turn_of
-    lsu_Turns.next_of muldiv_Operands.operands_of muldiv_Steps.multiplied muldiv_Steps.divided
-    muldiv_Steps.division_step muldiv_Steps.step_of muldiv_Steps.begun_product muldiv_Steps.begun_division
-    muldiv_Unit.seen muldiv_Unit.packed muldiv_Unit.idle_of muldiv_Unit.start_of muldiv_Unit.tick_of
-    muldiv_Unit.result_of muldiv_Unit.ticks bus_Memory.merged bus_Memory.stored_word bus_Memory.memory_next
-    bus_Port.answer_wires bus_Port.port_moves secded_Code.weight secded_Code.numbers_of_weight secded_Code.columns
-    secded_Code.column secded_Code.checks secded_Code.syndrome_of secded_Code.encode_of secded_Code.rewrite_of walk
-    facts_of facts_by arch_facts memory_from stage_facts fetch_facts work_test cache_from turn_facts end_facts
-    left_facts middle_facts mid_facts answer_facts issue_facts wired_test trap_phase fetched place_of
+    core_Sights.row_of core_Sights.ra_of core_Sights.rb_of core_Sights.access_by core_Sights.is_denied
+    core_Sights.refused_by core_Sights.turn_by core_Sights.csr_cause core_Sights.row_cause core_Sights.cause_of
+    core_Sights.md_by core_Sights.cost_by core_Effects.plain_outcome core_Effects.csr_written core_Effects.csr_outcome
+    core_Effects.outcome_by core_Effects.retires core_Effects.rests core_Effects.fails core_Effects.portion_fails
+    core_Effects.cause_fails core_Effects.interrupts core_Effects.effect_by core_Entries.fetched_by
+    core_Entries.may_execute core_Entries.fetched_of core_Entries.entry_by core_Entries.admits_at core_Core.md_next
+    core_Core.ls_by core_Sights.sight_with core_Sights.sight_of core_Core.port_of core_Core.head_at
+    core_Core.cycle_with core_Core.cycle_seen core_Core.cycle_of core_Core.next_by machine_Core.core_out_by
+    id_Turns.worked id_Turns.real_turn id_Turns.turn_of machine_System.image_words machine_System.first_system
+    machine_System.in_of machine_System.system_by machine_System.shown_of machine_System.system_next machine_System.run
+    machine_Whole.steps icache_WordPort.reset_of icache_Doing.doing_of icache_WordPort.is_hit
+    icache_WordPort.found_word icache_WordPort.victim_of icache_Doing.answers_by icache_WordPort.entry_by
+    icache_WordPort.answer_of icache_WordPort.gone_by icache_WordPort.begun_by icache_Doing.wires_by
+    icache_Doing.granted_by icache_WordPort.wires_of icache_WordPort.word_port_next icache_WordPort.filling_of
+    csr_Fields.values csr_Fields.reset_of csr_Fields.put_of csr_Fields.write_of csr_Fields.tick_of csr_Fields.with_regs
+    csr_Fields.glitch_of lsu_Turns.turn_of lsu_Turns.next_of muldiv_Operands.operands_of muldiv_Steps.multiplied
+    muldiv_Steps.divided muldiv_Steps.division_step muldiv_Steps.step_of muldiv_Steps.begun_product
+    muldiv_Steps.begun_division muldiv_Unit.seen muldiv_Unit.packed muldiv_Unit.idle_of muldiv_Unit.start_of
+    muldiv_Unit.tick_of muldiv_Unit.result_of muldiv_Unit.ticks bus_Memory.merged bus_Memory.stored_word
+    bus_Memory.memory_next bus_Port.answer_wires bus_Port.port_moves secded_Code.weight secded_Code.numbers_of_weight
+    secded_Code.columns secded_Code.column secded_Code.checks secded_Code.syndrome_of secded_Code.encode_of
+    secded_Code.rewrite_of walk facts_of facts_by arch_facts memory_from stage_facts fetch_facts work_test cache_from
+    turn_facts end_facts left_facts middle_facts mid_facts answer_facts issue_facts wired_test trap_phase fetched
+    place_of
 errors_is = refl
 
 -- the third run: lines in both ways of the cache, and a FENCE.I
@@ -905,22 +923,28 @@ unfolding wires_at bus_line story_after ctl_after dummy_word dummy_cost brought_
     grant_time answer_time lib.Count.count_trailing_zeros lib.Count.count_leading_zeros prefetch_Buffer.fetch_reset
     prefetch_Buffer.turned prefetch_Buffer.pushed prefetch_Buffer.received prefetch_Buffer.head_of
     prefetch_Buffer.request_of prefetch_Buffer.requested prefetch_Buffer.popped prefetch_Buffer.prefetch_next
-    machine_Core.cause_of machine_Core.sight_by machine_Core.retired_by machine_Core.effect_by machine_Core.fetched_by
-    machine_Core.entry_by machine_Core.admits_by machine_Core.cycle_with machine_Core.cycle_of
-    machine_Core.core_next_by machine_Core.core_out_by id_Turns.worked id_Turns.real_turn id_Turns.turn_of
-    machine_System.image_words machine_System.first_system machine_System.in_of machine_System.system_by
-    machine_System.shown_of machine_System.system_next machine_System.run machine_Whole.steps icache_WordPort.reset_of
-    icache_Doing.doing_of icache_WordPort.is_hit icache_WordPort.found_word icache_WordPort.victim_of
-    icache_Doing.answers_by icache_WordPort.entry_by icache_WordPort.answer_of icache_WordPort.gone_by
-    icache_WordPort.begun_by icache_Doing.wires_by icache_Doing.granted_by icache_WordPort.wires_of
-    icache_WordPort.word_port_next icache_WordPort.filling_of csr_Fields.values csr_Fields.reset_of csr_Fields.put_of
-    csr_Fields.write_of csr_Fields.tick_of csr_Fields.with_regs csr_Fields.glitch_of lsu_Turns.turn_of
-    lsu_Turns.next_of muldiv_Operands.operands_of muldiv_Steps.multiplied muldiv_Steps.divided
-    muldiv_Steps.division_step muldiv_Steps.step_of muldiv_Steps.begun_product muldiv_Steps.begun_division
-    muldiv_Unit.seen muldiv_Unit.packed muldiv_Unit.idle_of muldiv_Unit.start_of muldiv_Unit.tick_of
-    muldiv_Unit.result_of muldiv_Unit.ticks bus_Memory.merged bus_Memory.stored_word bus_Memory.memory_next
-    bus_Port.answer_wires bus_Port.port_moves secded_Code.weight secded_Code.numbers_of_weight secded_Code.columns
-    secded_Code.column secded_Code.checks secded_Code.syndrome_of secded_Code.encode_of secded_Code.rewrite_of walk
-    facts_of facts_by arch_facts memory_from stage_facts fetch_facts work_test cache_from turn_facts end_facts
-    left_facts middle_facts mid_facts answer_facts issue_facts wired_test trap_phase fetched place_of
+    core_Sights.row_of core_Sights.ra_of core_Sights.rb_of core_Sights.access_by core_Sights.is_denied
+    core_Sights.refused_by core_Sights.turn_by core_Sights.csr_cause core_Sights.row_cause core_Sights.cause_of
+    core_Sights.md_by core_Sights.cost_by core_Effects.plain_outcome core_Effects.csr_written core_Effects.csr_outcome
+    core_Effects.outcome_by core_Effects.retires core_Effects.rests core_Effects.fails core_Effects.portion_fails
+    core_Effects.cause_fails core_Effects.interrupts core_Effects.effect_by core_Entries.fetched_by
+    core_Entries.may_execute core_Entries.fetched_of core_Entries.entry_by core_Entries.admits_at core_Core.md_next
+    core_Core.ls_by core_Sights.sight_with core_Sights.sight_of core_Core.port_of core_Core.head_at
+    core_Core.cycle_with core_Core.cycle_seen core_Core.cycle_of core_Core.next_by machine_Core.core_out_by
+    id_Turns.worked id_Turns.real_turn id_Turns.turn_of machine_System.image_words machine_System.first_system
+    machine_System.in_of machine_System.system_by machine_System.shown_of machine_System.system_next machine_System.run
+    machine_Whole.steps icache_WordPort.reset_of icache_Doing.doing_of icache_WordPort.is_hit
+    icache_WordPort.found_word icache_WordPort.victim_of icache_Doing.answers_by icache_WordPort.entry_by
+    icache_WordPort.answer_of icache_WordPort.gone_by icache_WordPort.begun_by icache_Doing.wires_by
+    icache_Doing.granted_by icache_WordPort.wires_of icache_WordPort.word_port_next icache_WordPort.filling_of
+    csr_Fields.values csr_Fields.reset_of csr_Fields.put_of csr_Fields.write_of csr_Fields.tick_of csr_Fields.with_regs
+    csr_Fields.glitch_of lsu_Turns.turn_of lsu_Turns.next_of muldiv_Operands.operands_of muldiv_Steps.multiplied
+    muldiv_Steps.divided muldiv_Steps.division_step muldiv_Steps.step_of muldiv_Steps.begun_product
+    muldiv_Steps.begun_division muldiv_Unit.seen muldiv_Unit.packed muldiv_Unit.idle_of muldiv_Unit.start_of
+    muldiv_Unit.tick_of muldiv_Unit.result_of muldiv_Unit.ticks bus_Memory.merged bus_Memory.stored_word
+    bus_Memory.memory_next bus_Port.answer_wires bus_Port.port_moves secded_Code.weight secded_Code.numbers_of_weight
+    secded_Code.columns secded_Code.column secded_Code.checks secded_Code.syndrome_of secded_Code.encode_of
+    secded_Code.rewrite_of walk facts_of facts_by arch_facts memory_from stage_facts fetch_facts work_test cache_from
+    turn_facts end_facts left_facts middle_facts mid_facts answer_facts issue_facts wired_test trap_phase fetched
+    place_of
 ways_is = refl

@@ -1,11 +1,10 @@
 -- The architecture's state against the fields that hold it, and what is kept of the story itself.
 use Rattle.std.proofs.Common.{◌≡◌, ℕ, ◌%◌, ◌^◌, ◌<◌, ◌≤◌, List, [], ◌∷◌, ◌++◌, map, length, slice_index, All}
-use Rattle.ibx_elf.specs.Image.{image_byte}
 use Rattle.ibx_arch.specs.State.{at_cycle}
 use Rattle.ibx_joining.proofs.Fetches.{pc_in}
 use Rattle.ibx_joining.proofs.Links.{AreGranted}
 use Rattle.ibx_bus.specs.Memory.{MemoryState}
-use Rattle.ibx_time.specs.Settings.{Setup, lines_in, settings_of}
+use Rattle.ibx_time.specs.Settings.{Setup}
 use Rattle.ibx_time.specs.Controls.{ctl_of}
 use Rattle.ibx_time.specs.Memories.{Write, memory_at}
 use Rattle.ibx_time.specs.History.{Story}

@@ -45,6 +45,10 @@ use Rattle.ibx_decoder.specs.Rows.{decode_of}
 use Rattle.ibx_bus.specs.PortTimes.{waits_of, grant_time, answer_time}
 use Rattle.ibx_machine.specs.System.{run, first_system}
 use Rattle.ibx_prefetch.specs.Buffer as prefetch_Buffer
+use Rattle.ibx_core.specs.Sights as core_Sights
+use Rattle.ibx_core.specs.Effects as core_Effects
+use Rattle.ibx_core.specs.Entries as core_Entries
+use Rattle.ibx_core.specs.Core as core_Core
 use Rattle.ibx_machine.specs.Core as machine_Core
 use Rattle.ibx_id.specs.Turns as id_Turns
 use Rattle.ibx_machine.specs.System as machine_System
@@ -93,22 +97,28 @@ unfolding wires_at bus_line story_after ctl_after dummy_word dummy_cost brought_
     answer_time lib.Count.count_trailing_zeros lib.Count.count_leading_zeros prefetch_Buffer.fetch_reset
     prefetch_Buffer.turned prefetch_Buffer.pushed prefetch_Buffer.received prefetch_Buffer.head_of
     prefetch_Buffer.request_of prefetch_Buffer.requested prefetch_Buffer.popped prefetch_Buffer.prefetch_next
-    machine_Core.cause_of machine_Core.sight_by machine_Core.retired_by machine_Core.effect_by machine_Core.fetched_by
-    machine_Core.entry_by machine_Core.admits_by machine_Core.cycle_with machine_Core.cycle_of
-    machine_Core.core_next_by machine_Core.core_out_by id_Turns.worked id_Turns.real_turn id_Turns.turn_of
-    machine_System.image_words machine_System.first_system machine_System.in_of machine_System.system_by
-    machine_System.shown_of machine_System.system_next machine_System.run machine_Whole.steps icache_WordPort.reset_of
-    icache_Doing.doing_of icache_WordPort.is_hit icache_WordPort.found_word icache_WordPort.victim_of
-    icache_Doing.answers_by icache_WordPort.entry_by icache_WordPort.answer_of icache_WordPort.gone_by
-    icache_WordPort.begun_by icache_Doing.wires_by icache_Doing.granted_by icache_WordPort.wires_of
-    icache_WordPort.word_port_next icache_WordPort.filling_of csr_Fields.values csr_Fields.reset_of csr_Fields.put_of
-    csr_Fields.write_of csr_Fields.tick_of csr_Fields.with_regs csr_Fields.glitch_of lsu_Turns.turn_of
-    lsu_Turns.next_of muldiv_Operands.operands_of muldiv_Steps.multiplied muldiv_Steps.divided
-    muldiv_Steps.division_step muldiv_Steps.step_of muldiv_Steps.begun_product muldiv_Steps.begun_division
-    muldiv_Unit.seen muldiv_Unit.packed muldiv_Unit.idle_of muldiv_Unit.start_of muldiv_Unit.tick_of
-    muldiv_Unit.result_of muldiv_Unit.ticks bus_Memory.merged bus_Memory.stored_word bus_Memory.memory_next
-    bus_Port.answer_wires bus_Port.port_moves secded_Code.weight secded_Code.numbers_of_weight secded_Code.columns
-    secded_Code.column secded_Code.checks secded_Code.syndrome_of secded_Code.encode_of secded_Code.rewrite_of
+    core_Sights.row_of core_Sights.ra_of core_Sights.rb_of core_Sights.access_by core_Sights.is_denied
+    core_Sights.refused_by core_Sights.turn_by core_Sights.csr_cause core_Sights.row_cause core_Sights.cause_of
+    core_Sights.md_by core_Sights.cost_by core_Effects.plain_outcome core_Effects.csr_written core_Effects.csr_outcome
+    core_Effects.outcome_by core_Effects.retires core_Effects.rests core_Effects.fails core_Effects.portion_fails
+    core_Effects.cause_fails core_Effects.interrupts core_Effects.effect_by core_Entries.fetched_by
+    core_Entries.may_execute core_Entries.fetched_of core_Entries.entry_by core_Entries.admits_at core_Core.md_next
+    core_Core.ls_by core_Sights.sight_with core_Sights.sight_of core_Core.port_of core_Core.head_at
+    core_Core.cycle_with core_Core.cycle_seen core_Core.cycle_of core_Core.next_by machine_Core.core_out_by
+    id_Turns.worked id_Turns.real_turn id_Turns.turn_of machine_System.image_words machine_System.first_system
+    machine_System.in_of machine_System.system_by machine_System.shown_of machine_System.system_next machine_System.run
+    machine_Whole.steps icache_WordPort.reset_of icache_Doing.doing_of icache_WordPort.is_hit
+    icache_WordPort.found_word icache_WordPort.victim_of icache_Doing.answers_by icache_WordPort.entry_by
+    icache_WordPort.answer_of icache_WordPort.gone_by icache_WordPort.begun_by icache_Doing.wires_by
+    icache_Doing.granted_by icache_WordPort.wires_of icache_WordPort.word_port_next icache_WordPort.filling_of
+    csr_Fields.values csr_Fields.reset_of csr_Fields.put_of csr_Fields.write_of csr_Fields.tick_of csr_Fields.with_regs
+    csr_Fields.glitch_of lsu_Turns.turn_of lsu_Turns.next_of muldiv_Operands.operands_of muldiv_Steps.multiplied
+    muldiv_Steps.divided muldiv_Steps.division_step muldiv_Steps.step_of muldiv_Steps.begun_product
+    muldiv_Steps.begun_division muldiv_Unit.seen muldiv_Unit.packed muldiv_Unit.idle_of muldiv_Unit.start_of
+    muldiv_Unit.tick_of muldiv_Unit.result_of muldiv_Unit.ticks bus_Memory.merged bus_Memory.stored_word
+    bus_Memory.memory_next bus_Port.answer_wires bus_Port.port_moves secded_Code.weight secded_Code.numbers_of_weight
+    secded_Code.columns secded_Code.column secded_Code.checks secded_Code.syndrome_of secded_Code.encode_of
+    secded_Code.rewrite_of
 row1 = refl
 
 -- the same, with each fetch granted a cycle late
@@ -140,22 +150,28 @@ unfolding wires_at bus_line story_after ctl_after dummy_word dummy_cost brought_
     answer_time lib.Count.count_trailing_zeros lib.Count.count_leading_zeros prefetch_Buffer.fetch_reset
     prefetch_Buffer.turned prefetch_Buffer.pushed prefetch_Buffer.received prefetch_Buffer.head_of
     prefetch_Buffer.request_of prefetch_Buffer.requested prefetch_Buffer.popped prefetch_Buffer.prefetch_next
-    machine_Core.cause_of machine_Core.sight_by machine_Core.retired_by machine_Core.effect_by machine_Core.fetched_by
-    machine_Core.entry_by machine_Core.admits_by machine_Core.cycle_with machine_Core.cycle_of
-    machine_Core.core_next_by machine_Core.core_out_by id_Turns.worked id_Turns.real_turn id_Turns.turn_of
-    machine_System.image_words machine_System.first_system machine_System.in_of machine_System.system_by
-    machine_System.shown_of machine_System.system_next machine_System.run machine_Whole.steps icache_WordPort.reset_of
-    icache_Doing.doing_of icache_WordPort.is_hit icache_WordPort.found_word icache_WordPort.victim_of
-    icache_Doing.answers_by icache_WordPort.entry_by icache_WordPort.answer_of icache_WordPort.gone_by
-    icache_WordPort.begun_by icache_Doing.wires_by icache_Doing.granted_by icache_WordPort.wires_of
-    icache_WordPort.word_port_next icache_WordPort.filling_of csr_Fields.values csr_Fields.reset_of csr_Fields.put_of
-    csr_Fields.write_of csr_Fields.tick_of csr_Fields.with_regs csr_Fields.glitch_of lsu_Turns.turn_of
-    lsu_Turns.next_of muldiv_Operands.operands_of muldiv_Steps.multiplied muldiv_Steps.divided
-    muldiv_Steps.division_step muldiv_Steps.step_of muldiv_Steps.begun_product muldiv_Steps.begun_division
-    muldiv_Unit.seen muldiv_Unit.packed muldiv_Unit.idle_of muldiv_Unit.start_of muldiv_Unit.tick_of
-    muldiv_Unit.result_of muldiv_Unit.ticks bus_Memory.merged bus_Memory.stored_word bus_Memory.memory_next
-    bus_Port.answer_wires bus_Port.port_moves secded_Code.weight secded_Code.numbers_of_weight secded_Code.columns
-    secded_Code.column secded_Code.checks secded_Code.syndrome_of secded_Code.encode_of secded_Code.rewrite_of
+    core_Sights.row_of core_Sights.ra_of core_Sights.rb_of core_Sights.access_by core_Sights.is_denied
+    core_Sights.refused_by core_Sights.turn_by core_Sights.csr_cause core_Sights.row_cause core_Sights.cause_of
+    core_Sights.md_by core_Sights.cost_by core_Effects.plain_outcome core_Effects.csr_written core_Effects.csr_outcome
+    core_Effects.outcome_by core_Effects.retires core_Effects.rests core_Effects.fails core_Effects.portion_fails
+    core_Effects.cause_fails core_Effects.interrupts core_Effects.effect_by core_Entries.fetched_by
+    core_Entries.may_execute core_Entries.fetched_of core_Entries.entry_by core_Entries.admits_at core_Core.md_next
+    core_Core.ls_by core_Sights.sight_with core_Sights.sight_of core_Core.port_of core_Core.head_at
+    core_Core.cycle_with core_Core.cycle_seen core_Core.cycle_of core_Core.next_by machine_Core.core_out_by
+    id_Turns.worked id_Turns.real_turn id_Turns.turn_of machine_System.image_words machine_System.first_system
+    machine_System.in_of machine_System.system_by machine_System.shown_of machine_System.system_next machine_System.run
+    machine_Whole.steps icache_WordPort.reset_of icache_Doing.doing_of icache_WordPort.is_hit
+    icache_WordPort.found_word icache_WordPort.victim_of icache_Doing.answers_by icache_WordPort.entry_by
+    icache_WordPort.answer_of icache_WordPort.gone_by icache_WordPort.begun_by icache_Doing.wires_by
+    icache_Doing.granted_by icache_WordPort.wires_of icache_WordPort.word_port_next icache_WordPort.filling_of
+    csr_Fields.values csr_Fields.reset_of csr_Fields.put_of csr_Fields.write_of csr_Fields.tick_of csr_Fields.with_regs
+    csr_Fields.glitch_of lsu_Turns.turn_of lsu_Turns.next_of muldiv_Operands.operands_of muldiv_Steps.multiplied
+    muldiv_Steps.divided muldiv_Steps.division_step muldiv_Steps.step_of muldiv_Steps.begun_product
+    muldiv_Steps.begun_division muldiv_Unit.seen muldiv_Unit.packed muldiv_Unit.idle_of muldiv_Unit.start_of
+    muldiv_Unit.tick_of muldiv_Unit.result_of muldiv_Unit.ticks bus_Memory.merged bus_Memory.stored_word
+    bus_Memory.memory_next bus_Port.answer_wires bus_Port.port_moves secded_Code.weight secded_Code.numbers_of_weight
+    secded_Code.columns secded_Code.column secded_Code.checks secded_Code.syndrome_of secded_Code.encode_of
+    secded_Code.rewrite_of
 row2 = refl
 
 -- fixed timing is turned on before a branch
@@ -192,22 +208,28 @@ unfolding wires_at bus_line story_after ctl_after dummy_word dummy_cost brought_
     answer_time lib.Count.count_trailing_zeros lib.Count.count_leading_zeros prefetch_Buffer.fetch_reset
     prefetch_Buffer.turned prefetch_Buffer.pushed prefetch_Buffer.received prefetch_Buffer.head_of
     prefetch_Buffer.request_of prefetch_Buffer.requested prefetch_Buffer.popped prefetch_Buffer.prefetch_next
-    machine_Core.cause_of machine_Core.sight_by machine_Core.retired_by machine_Core.effect_by machine_Core.fetched_by
-    machine_Core.entry_by machine_Core.admits_by machine_Core.cycle_with machine_Core.cycle_of
-    machine_Core.core_next_by machine_Core.core_out_by id_Turns.worked id_Turns.real_turn id_Turns.turn_of
-    machine_System.image_words machine_System.first_system machine_System.in_of machine_System.system_by
-    machine_System.shown_of machine_System.system_next machine_System.run machine_Whole.steps icache_WordPort.reset_of
-    icache_Doing.doing_of icache_WordPort.is_hit icache_WordPort.found_word icache_WordPort.victim_of
-    icache_Doing.answers_by icache_WordPort.entry_by icache_WordPort.answer_of icache_WordPort.gone_by
-    icache_WordPort.begun_by icache_Doing.wires_by icache_Doing.granted_by icache_WordPort.wires_of
-    icache_WordPort.word_port_next icache_WordPort.filling_of csr_Fields.values csr_Fields.reset_of csr_Fields.put_of
-    csr_Fields.write_of csr_Fields.tick_of csr_Fields.with_regs csr_Fields.glitch_of lsu_Turns.turn_of
-    lsu_Turns.next_of muldiv_Operands.operands_of muldiv_Steps.multiplied muldiv_Steps.divided
-    muldiv_Steps.division_step muldiv_Steps.step_of muldiv_Steps.begun_product muldiv_Steps.begun_division
-    muldiv_Unit.seen muldiv_Unit.packed muldiv_Unit.idle_of muldiv_Unit.start_of muldiv_Unit.tick_of
-    muldiv_Unit.result_of muldiv_Unit.ticks bus_Memory.merged bus_Memory.stored_word bus_Memory.memory_next
-    bus_Port.answer_wires bus_Port.port_moves secded_Code.weight secded_Code.numbers_of_weight secded_Code.columns
-    secded_Code.column secded_Code.checks secded_Code.syndrome_of secded_Code.encode_of secded_Code.rewrite_of
+    core_Sights.row_of core_Sights.ra_of core_Sights.rb_of core_Sights.access_by core_Sights.is_denied
+    core_Sights.refused_by core_Sights.turn_by core_Sights.csr_cause core_Sights.row_cause core_Sights.cause_of
+    core_Sights.md_by core_Sights.cost_by core_Effects.plain_outcome core_Effects.csr_written core_Effects.csr_outcome
+    core_Effects.outcome_by core_Effects.retires core_Effects.rests core_Effects.fails core_Effects.portion_fails
+    core_Effects.cause_fails core_Effects.interrupts core_Effects.effect_by core_Entries.fetched_by
+    core_Entries.may_execute core_Entries.fetched_of core_Entries.entry_by core_Entries.admits_at core_Core.md_next
+    core_Core.ls_by core_Sights.sight_with core_Sights.sight_of core_Core.port_of core_Core.head_at
+    core_Core.cycle_with core_Core.cycle_seen core_Core.cycle_of core_Core.next_by machine_Core.core_out_by
+    id_Turns.worked id_Turns.real_turn id_Turns.turn_of machine_System.image_words machine_System.first_system
+    machine_System.in_of machine_System.system_by machine_System.shown_of machine_System.system_next machine_System.run
+    machine_Whole.steps icache_WordPort.reset_of icache_Doing.doing_of icache_WordPort.is_hit
+    icache_WordPort.found_word icache_WordPort.victim_of icache_Doing.answers_by icache_WordPort.entry_by
+    icache_WordPort.answer_of icache_WordPort.gone_by icache_WordPort.begun_by icache_Doing.wires_by
+    icache_Doing.granted_by icache_WordPort.wires_of icache_WordPort.word_port_next icache_WordPort.filling_of
+    csr_Fields.values csr_Fields.reset_of csr_Fields.put_of csr_Fields.write_of csr_Fields.tick_of csr_Fields.with_regs
+    csr_Fields.glitch_of lsu_Turns.turn_of lsu_Turns.next_of muldiv_Operands.operands_of muldiv_Steps.multiplied
+    muldiv_Steps.divided muldiv_Steps.division_step muldiv_Steps.step_of muldiv_Steps.begun_product
+    muldiv_Steps.begun_division muldiv_Unit.seen muldiv_Unit.packed muldiv_Unit.idle_of muldiv_Unit.start_of
+    muldiv_Unit.tick_of muldiv_Unit.result_of muldiv_Unit.ticks bus_Memory.merged bus_Memory.stored_word
+    bus_Memory.memory_next bus_Port.answer_wires bus_Port.port_moves secded_Code.weight secded_Code.numbers_of_weight
+    secded_Code.columns secded_Code.column secded_Code.checks secded_Code.syndrome_of secded_Code.encode_of
+    secded_Code.rewrite_of
 row4 = refl
 
 -- a division of two registers
@@ -249,22 +271,28 @@ unfolding wires_at bus_line story_after ctl_after dummy_word dummy_cost brought_
     answer_time lib.Count.count_trailing_zeros lib.Count.count_leading_zeros prefetch_Buffer.fetch_reset
     prefetch_Buffer.turned prefetch_Buffer.pushed prefetch_Buffer.received prefetch_Buffer.head_of
     prefetch_Buffer.request_of prefetch_Buffer.requested prefetch_Buffer.popped prefetch_Buffer.prefetch_next
-    machine_Core.cause_of machine_Core.sight_by machine_Core.retired_by machine_Core.effect_by machine_Core.fetched_by
-    machine_Core.entry_by machine_Core.admits_by machine_Core.cycle_with machine_Core.cycle_of
-    machine_Core.core_next_by machine_Core.core_out_by id_Turns.worked id_Turns.real_turn id_Turns.turn_of
-    machine_System.image_words machine_System.first_system machine_System.in_of machine_System.system_by
-    machine_System.shown_of machine_System.system_next machine_System.run machine_Whole.steps icache_WordPort.reset_of
-    icache_Doing.doing_of icache_WordPort.is_hit icache_WordPort.found_word icache_WordPort.victim_of
-    icache_Doing.answers_by icache_WordPort.entry_by icache_WordPort.answer_of icache_WordPort.gone_by
-    icache_WordPort.begun_by icache_Doing.wires_by icache_Doing.granted_by icache_WordPort.wires_of
-    icache_WordPort.word_port_next icache_WordPort.filling_of csr_Fields.values csr_Fields.reset_of csr_Fields.put_of
-    csr_Fields.write_of csr_Fields.tick_of csr_Fields.with_regs csr_Fields.glitch_of lsu_Turns.turn_of
-    lsu_Turns.next_of muldiv_Operands.operands_of muldiv_Steps.multiplied muldiv_Steps.divided
-    muldiv_Steps.division_step muldiv_Steps.step_of muldiv_Steps.begun_product muldiv_Steps.begun_division
-    muldiv_Unit.seen muldiv_Unit.packed muldiv_Unit.idle_of muldiv_Unit.start_of muldiv_Unit.tick_of
-    muldiv_Unit.result_of muldiv_Unit.ticks bus_Memory.merged bus_Memory.stored_word bus_Memory.memory_next
-    bus_Port.answer_wires bus_Port.port_moves secded_Code.weight secded_Code.numbers_of_weight secded_Code.columns
-    secded_Code.column secded_Code.checks secded_Code.syndrome_of secded_Code.encode_of secded_Code.rewrite_of
+    core_Sights.row_of core_Sights.ra_of core_Sights.rb_of core_Sights.access_by core_Sights.is_denied
+    core_Sights.refused_by core_Sights.turn_by core_Sights.csr_cause core_Sights.row_cause core_Sights.cause_of
+    core_Sights.md_by core_Sights.cost_by core_Effects.plain_outcome core_Effects.csr_written core_Effects.csr_outcome
+    core_Effects.outcome_by core_Effects.retires core_Effects.rests core_Effects.fails core_Effects.portion_fails
+    core_Effects.cause_fails core_Effects.interrupts core_Effects.effect_by core_Entries.fetched_by
+    core_Entries.may_execute core_Entries.fetched_of core_Entries.entry_by core_Entries.admits_at core_Core.md_next
+    core_Core.ls_by core_Sights.sight_with core_Sights.sight_of core_Core.port_of core_Core.head_at
+    core_Core.cycle_with core_Core.cycle_seen core_Core.cycle_of core_Core.next_by machine_Core.core_out_by
+    id_Turns.worked id_Turns.real_turn id_Turns.turn_of machine_System.image_words machine_System.first_system
+    machine_System.in_of machine_System.system_by machine_System.shown_of machine_System.system_next machine_System.run
+    machine_Whole.steps icache_WordPort.reset_of icache_Doing.doing_of icache_WordPort.is_hit
+    icache_WordPort.found_word icache_WordPort.victim_of icache_Doing.answers_by icache_WordPort.entry_by
+    icache_WordPort.answer_of icache_WordPort.gone_by icache_WordPort.begun_by icache_Doing.wires_by
+    icache_Doing.granted_by icache_WordPort.wires_of icache_WordPort.word_port_next icache_WordPort.filling_of
+    csr_Fields.values csr_Fields.reset_of csr_Fields.put_of csr_Fields.write_of csr_Fields.tick_of csr_Fields.with_regs
+    csr_Fields.glitch_of lsu_Turns.turn_of lsu_Turns.next_of muldiv_Operands.operands_of muldiv_Steps.multiplied
+    muldiv_Steps.divided muldiv_Steps.division_step muldiv_Steps.step_of muldiv_Steps.begun_product
+    muldiv_Steps.begun_division muldiv_Unit.seen muldiv_Unit.packed muldiv_Unit.idle_of muldiv_Unit.start_of
+    muldiv_Unit.tick_of muldiv_Unit.result_of muldiv_Unit.ticks bus_Memory.merged bus_Memory.stored_word
+    bus_Memory.memory_next bus_Port.answer_wires bus_Port.port_moves secded_Code.weight secded_Code.numbers_of_weight
+    secded_Code.columns secded_Code.column secded_Code.checks secded_Code.syndrome_of secded_Code.encode_of
+    secded_Code.rewrite_of
 row5 = refl
 
 -- a load that crosses words, with waits on the data port
@@ -308,22 +336,28 @@ unfolding wires_at bus_line story_after ctl_after dummy_word dummy_cost brought_
     answer_time lib.Count.count_trailing_zeros lib.Count.count_leading_zeros prefetch_Buffer.fetch_reset
     prefetch_Buffer.turned prefetch_Buffer.pushed prefetch_Buffer.received prefetch_Buffer.head_of
     prefetch_Buffer.request_of prefetch_Buffer.requested prefetch_Buffer.popped prefetch_Buffer.prefetch_next
-    machine_Core.cause_of machine_Core.sight_by machine_Core.retired_by machine_Core.effect_by machine_Core.fetched_by
-    machine_Core.entry_by machine_Core.admits_by machine_Core.cycle_with machine_Core.cycle_of
-    machine_Core.core_next_by machine_Core.core_out_by id_Turns.worked id_Turns.real_turn id_Turns.turn_of
-    machine_System.image_words machine_System.first_system machine_System.in_of machine_System.system_by
-    machine_System.shown_of machine_System.system_next machine_System.run machine_Whole.steps icache_WordPort.reset_of
-    icache_Doing.doing_of icache_WordPort.is_hit icache_WordPort.found_word icache_WordPort.victim_of
-    icache_Doing.answers_by icache_WordPort.entry_by icache_WordPort.answer_of icache_WordPort.gone_by
-    icache_WordPort.begun_by icache_Doing.wires_by icache_Doing.granted_by icache_WordPort.wires_of
-    icache_WordPort.word_port_next icache_WordPort.filling_of csr_Fields.values csr_Fields.reset_of csr_Fields.put_of
-    csr_Fields.write_of csr_Fields.tick_of csr_Fields.with_regs csr_Fields.glitch_of lsu_Turns.turn_of
-    lsu_Turns.next_of muldiv_Operands.operands_of muldiv_Steps.multiplied muldiv_Steps.divided
-    muldiv_Steps.division_step muldiv_Steps.step_of muldiv_Steps.begun_product muldiv_Steps.begun_division
-    muldiv_Unit.seen muldiv_Unit.packed muldiv_Unit.idle_of muldiv_Unit.start_of muldiv_Unit.tick_of
-    muldiv_Unit.result_of muldiv_Unit.ticks bus_Memory.merged bus_Memory.stored_word bus_Memory.memory_next
-    bus_Port.answer_wires bus_Port.port_moves secded_Code.weight secded_Code.numbers_of_weight secded_Code.columns
-    secded_Code.column secded_Code.checks secded_Code.syndrome_of secded_Code.encode_of secded_Code.rewrite_of
+    core_Sights.row_of core_Sights.ra_of core_Sights.rb_of core_Sights.access_by core_Sights.is_denied
+    core_Sights.refused_by core_Sights.turn_by core_Sights.csr_cause core_Sights.row_cause core_Sights.cause_of
+    core_Sights.md_by core_Sights.cost_by core_Effects.plain_outcome core_Effects.csr_written core_Effects.csr_outcome
+    core_Effects.outcome_by core_Effects.retires core_Effects.rests core_Effects.fails core_Effects.portion_fails
+    core_Effects.cause_fails core_Effects.interrupts core_Effects.effect_by core_Entries.fetched_by
+    core_Entries.may_execute core_Entries.fetched_of core_Entries.entry_by core_Entries.admits_at core_Core.md_next
+    core_Core.ls_by core_Sights.sight_with core_Sights.sight_of core_Core.port_of core_Core.head_at
+    core_Core.cycle_with core_Core.cycle_seen core_Core.cycle_of core_Core.next_by machine_Core.core_out_by
+    id_Turns.worked id_Turns.real_turn id_Turns.turn_of machine_System.image_words machine_System.first_system
+    machine_System.in_of machine_System.system_by machine_System.shown_of machine_System.system_next machine_System.run
+    machine_Whole.steps icache_WordPort.reset_of icache_Doing.doing_of icache_WordPort.is_hit
+    icache_WordPort.found_word icache_WordPort.victim_of icache_Doing.answers_by icache_WordPort.entry_by
+    icache_WordPort.answer_of icache_WordPort.gone_by icache_WordPort.begun_by icache_Doing.wires_by
+    icache_Doing.granted_by icache_WordPort.wires_of icache_WordPort.word_port_next icache_WordPort.filling_of
+    csr_Fields.values csr_Fields.reset_of csr_Fields.put_of csr_Fields.write_of csr_Fields.tick_of csr_Fields.with_regs
+    csr_Fields.glitch_of lsu_Turns.turn_of lsu_Turns.next_of muldiv_Operands.operands_of muldiv_Steps.multiplied
+    muldiv_Steps.divided muldiv_Steps.division_step muldiv_Steps.step_of muldiv_Steps.begun_product
+    muldiv_Steps.begun_division muldiv_Unit.seen muldiv_Unit.packed muldiv_Unit.idle_of muldiv_Unit.start_of
+    muldiv_Unit.tick_of muldiv_Unit.result_of muldiv_Unit.ticks bus_Memory.merged bus_Memory.stored_word
+    bus_Memory.memory_next bus_Port.answer_wires bus_Port.port_moves secded_Code.weight secded_Code.numbers_of_weight
+    secded_Code.columns secded_Code.column secded_Code.checks secded_Code.syndrome_of secded_Code.encode_of
+    secded_Code.rewrite_of
 row7 = refl
 
 -- an interrupt line rises as MIE is set
@@ -365,22 +399,28 @@ unfolding wires_at bus_line story_after ctl_after dummy_word dummy_cost brought_
     answer_time lib.Count.count_trailing_zeros lib.Count.count_leading_zeros prefetch_Buffer.fetch_reset
     prefetch_Buffer.turned prefetch_Buffer.pushed prefetch_Buffer.received prefetch_Buffer.head_of
     prefetch_Buffer.request_of prefetch_Buffer.requested prefetch_Buffer.popped prefetch_Buffer.prefetch_next
-    machine_Core.cause_of machine_Core.sight_by machine_Core.retired_by machine_Core.effect_by machine_Core.fetched_by
-    machine_Core.entry_by machine_Core.admits_by machine_Core.cycle_with machine_Core.cycle_of
-    machine_Core.core_next_by machine_Core.core_out_by id_Turns.worked id_Turns.real_turn id_Turns.turn_of
-    machine_System.image_words machine_System.first_system machine_System.in_of machine_System.system_by
-    machine_System.shown_of machine_System.system_next machine_System.run machine_Whole.steps icache_WordPort.reset_of
-    icache_Doing.doing_of icache_WordPort.is_hit icache_WordPort.found_word icache_WordPort.victim_of
-    icache_Doing.answers_by icache_WordPort.entry_by icache_WordPort.answer_of icache_WordPort.gone_by
-    icache_WordPort.begun_by icache_Doing.wires_by icache_Doing.granted_by icache_WordPort.wires_of
-    icache_WordPort.word_port_next icache_WordPort.filling_of csr_Fields.values csr_Fields.reset_of csr_Fields.put_of
-    csr_Fields.write_of csr_Fields.tick_of csr_Fields.with_regs csr_Fields.glitch_of lsu_Turns.turn_of
-    lsu_Turns.next_of muldiv_Operands.operands_of muldiv_Steps.multiplied muldiv_Steps.divided
-    muldiv_Steps.division_step muldiv_Steps.step_of muldiv_Steps.begun_product muldiv_Steps.begun_division
-    muldiv_Unit.seen muldiv_Unit.packed muldiv_Unit.idle_of muldiv_Unit.start_of muldiv_Unit.tick_of
-    muldiv_Unit.result_of muldiv_Unit.ticks bus_Memory.merged bus_Memory.stored_word bus_Memory.memory_next
-    bus_Port.answer_wires bus_Port.port_moves secded_Code.weight secded_Code.numbers_of_weight secded_Code.columns
-    secded_Code.column secded_Code.checks secded_Code.syndrome_of secded_Code.encode_of secded_Code.rewrite_of
+    core_Sights.row_of core_Sights.ra_of core_Sights.rb_of core_Sights.access_by core_Sights.is_denied
+    core_Sights.refused_by core_Sights.turn_by core_Sights.csr_cause core_Sights.row_cause core_Sights.cause_of
+    core_Sights.md_by core_Sights.cost_by core_Effects.plain_outcome core_Effects.csr_written core_Effects.csr_outcome
+    core_Effects.outcome_by core_Effects.retires core_Effects.rests core_Effects.fails core_Effects.portion_fails
+    core_Effects.cause_fails core_Effects.interrupts core_Effects.effect_by core_Entries.fetched_by
+    core_Entries.may_execute core_Entries.fetched_of core_Entries.entry_by core_Entries.admits_at core_Core.md_next
+    core_Core.ls_by core_Sights.sight_with core_Sights.sight_of core_Core.port_of core_Core.head_at
+    core_Core.cycle_with core_Core.cycle_seen core_Core.cycle_of core_Core.next_by machine_Core.core_out_by
+    id_Turns.worked id_Turns.real_turn id_Turns.turn_of machine_System.image_words machine_System.first_system
+    machine_System.in_of machine_System.system_by machine_System.shown_of machine_System.system_next machine_System.run
+    machine_Whole.steps icache_WordPort.reset_of icache_Doing.doing_of icache_WordPort.is_hit
+    icache_WordPort.found_word icache_WordPort.victim_of icache_Doing.answers_by icache_WordPort.entry_by
+    icache_WordPort.answer_of icache_WordPort.gone_by icache_WordPort.begun_by icache_Doing.wires_by
+    icache_Doing.granted_by icache_WordPort.wires_of icache_WordPort.word_port_next icache_WordPort.filling_of
+    csr_Fields.values csr_Fields.reset_of csr_Fields.put_of csr_Fields.write_of csr_Fields.tick_of csr_Fields.with_regs
+    csr_Fields.glitch_of lsu_Turns.turn_of lsu_Turns.next_of muldiv_Operands.operands_of muldiv_Steps.multiplied
+    muldiv_Steps.divided muldiv_Steps.division_step muldiv_Steps.step_of muldiv_Steps.begun_product
+    muldiv_Steps.begun_division muldiv_Unit.seen muldiv_Unit.packed muldiv_Unit.idle_of muldiv_Unit.start_of
+    muldiv_Unit.tick_of muldiv_Unit.result_of muldiv_Unit.ticks bus_Memory.merged bus_Memory.stored_word
+    bus_Memory.memory_next bus_Port.answer_wires bus_Port.port_moves secded_Code.weight secded_Code.numbers_of_weight
+    secded_Code.columns secded_Code.column secded_Code.checks secded_Code.syndrome_of secded_Code.encode_of
+    secded_Code.rewrite_of
 row12b = refl
 
 -- a program that turns dummies on
@@ -417,20 +457,26 @@ unfolding wires_at bus_line story_after ctl_after dummy_word dummy_cost brought_
     answer_time lib.Count.count_trailing_zeros lib.Count.count_leading_zeros prefetch_Buffer.fetch_reset
     prefetch_Buffer.turned prefetch_Buffer.pushed prefetch_Buffer.received prefetch_Buffer.head_of
     prefetch_Buffer.request_of prefetch_Buffer.requested prefetch_Buffer.popped prefetch_Buffer.prefetch_next
-    machine_Core.cause_of machine_Core.sight_by machine_Core.retired_by machine_Core.effect_by machine_Core.fetched_by
-    machine_Core.entry_by machine_Core.admits_by machine_Core.cycle_with machine_Core.cycle_of
-    machine_Core.core_next_by machine_Core.core_out_by id_Turns.worked id_Turns.real_turn id_Turns.turn_of
-    machine_System.image_words machine_System.first_system machine_System.in_of machine_System.system_by
-    machine_System.shown_of machine_System.system_next machine_System.run machine_Whole.steps icache_WordPort.reset_of
-    icache_Doing.doing_of icache_WordPort.is_hit icache_WordPort.found_word icache_WordPort.victim_of
-    icache_Doing.answers_by icache_WordPort.entry_by icache_WordPort.answer_of icache_WordPort.gone_by
-    icache_WordPort.begun_by icache_Doing.wires_by icache_Doing.granted_by icache_WordPort.wires_of
-    icache_WordPort.word_port_next icache_WordPort.filling_of csr_Fields.values csr_Fields.reset_of csr_Fields.put_of
-    csr_Fields.write_of csr_Fields.tick_of csr_Fields.with_regs csr_Fields.glitch_of lsu_Turns.turn_of
-    lsu_Turns.next_of muldiv_Operands.operands_of muldiv_Steps.multiplied muldiv_Steps.divided
-    muldiv_Steps.division_step muldiv_Steps.step_of muldiv_Steps.begun_product muldiv_Steps.begun_division
-    muldiv_Unit.seen muldiv_Unit.packed muldiv_Unit.idle_of muldiv_Unit.start_of muldiv_Unit.tick_of
-    muldiv_Unit.result_of muldiv_Unit.ticks bus_Memory.merged bus_Memory.stored_word bus_Memory.memory_next
-    bus_Port.answer_wires bus_Port.port_moves secded_Code.weight secded_Code.numbers_of_weight secded_Code.columns
-    secded_Code.column secded_Code.checks secded_Code.syndrome_of secded_Code.encode_of secded_Code.rewrite_of
+    core_Sights.row_of core_Sights.ra_of core_Sights.rb_of core_Sights.access_by core_Sights.is_denied
+    core_Sights.refused_by core_Sights.turn_by core_Sights.csr_cause core_Sights.row_cause core_Sights.cause_of
+    core_Sights.md_by core_Sights.cost_by core_Effects.plain_outcome core_Effects.csr_written core_Effects.csr_outcome
+    core_Effects.outcome_by core_Effects.retires core_Effects.rests core_Effects.fails core_Effects.portion_fails
+    core_Effects.cause_fails core_Effects.interrupts core_Effects.effect_by core_Entries.fetched_by
+    core_Entries.may_execute core_Entries.fetched_of core_Entries.entry_by core_Entries.admits_at core_Core.md_next
+    core_Core.ls_by core_Sights.sight_with core_Sights.sight_of core_Core.port_of core_Core.head_at
+    core_Core.cycle_with core_Core.cycle_seen core_Core.cycle_of core_Core.next_by machine_Core.core_out_by
+    id_Turns.worked id_Turns.real_turn id_Turns.turn_of machine_System.image_words machine_System.first_system
+    machine_System.in_of machine_System.system_by machine_System.shown_of machine_System.system_next machine_System.run
+    machine_Whole.steps icache_WordPort.reset_of icache_Doing.doing_of icache_WordPort.is_hit
+    icache_WordPort.found_word icache_WordPort.victim_of icache_Doing.answers_by icache_WordPort.entry_by
+    icache_WordPort.answer_of icache_WordPort.gone_by icache_WordPort.begun_by icache_Doing.wires_by
+    icache_Doing.granted_by icache_WordPort.wires_of icache_WordPort.word_port_next icache_WordPort.filling_of
+    csr_Fields.values csr_Fields.reset_of csr_Fields.put_of csr_Fields.write_of csr_Fields.tick_of csr_Fields.with_regs
+    csr_Fields.glitch_of lsu_Turns.turn_of lsu_Turns.next_of muldiv_Operands.operands_of muldiv_Steps.multiplied
+    muldiv_Steps.divided muldiv_Steps.division_step muldiv_Steps.step_of muldiv_Steps.begun_product
+    muldiv_Steps.begun_division muldiv_Unit.seen muldiv_Unit.packed muldiv_Unit.idle_of muldiv_Unit.start_of
+    muldiv_Unit.tick_of muldiv_Unit.result_of muldiv_Unit.ticks bus_Memory.merged bus_Memory.stored_word
+    bus_Memory.memory_next bus_Port.answer_wires bus_Port.port_moves secded_Code.weight secded_Code.numbers_of_weight
+    secded_Code.columns secded_Code.column secded_Code.checks secded_Code.syndrome_of secded_Code.encode_of
+    secded_Code.rewrite_of
 row13 = refl

@@ -13,12 +13,16 @@ use Rattle.ibx_lsu.specs.Turns.{idle_of as ls_idle}
 use Rattle.ibx_muldiv.specs.Unit.{idle_of as md_idle}
 use Rattle.ibx_time.specs.Settings.{Setup, settings_of, lines_in}
 use Rattle.ibx_dummy.specs.Dummies.{dummies_reset}
-use Rattle.ibx_machine.specs.Core.{Core, In, Out, Cycle, cycle_of, core_next_by, core_out_by, ra_of, rb_of}
+use Rattle.ibx_machine.specs.Core.{Out, core_out_by}
 use Rattle.ibx_prefetch.specs.Buffer.{fetch_reset}
 use Rattle.ibx_icache.specs.declared.writes.Filling.{Filling}
 use Rattle.ibx_icache.specs.WordPort.{reset_of as port_reset, looked}
 use Rattle.ibx_icache.specs.declared.writes.Filling.TheVariants.{Nothing, Clears, Stores}
 use Rattle.ibx_id.specs.Turns.{empty_stage}
+use Rattle.ibx_core.specs.declared.state.State.{State as Core}
+use Rattle.ibx_core.specs.Sights.{ra_of, rb_of}
+use Rattle.ibx_core.specs.Core.{Cycle, cycle_of, next_by}
+use Rattle.ibx_core.specs.Inputs.{Inputs}
 
 -- the core, the register words, the cache's tags and data words, memory, both ports, and the number of the cycle
 pub record System : Type 0 where
@@ -71,7 +75,7 @@ abbrev pub line_place : ℕ → ℕ → ℕ
 line_place slot addr = slot * 2 + addr / 4 % 2
 
 -- the wires into the core; the grants stay low until its requests are known
-unfoldable pub in_of : Setup → System → In
+unfoldable pub in_of : Setup → System → Inputs
 in_of s x = record {
   irsp = answer_wires x.iport;
   drsp = answer_wires x.dport;
@@ -106,12 +110,12 @@ put_lines (Stores slot tag word0 word1) lines = slice_set (slice_set lines (2 * 
 put_lines _ lines = lines
 
 -- the ports take the wires, the instruction port first
-unfoldable pub system_by : Cycle → Out → In → System → System
+unfoldable pub system_by : Cycle → Out → Inputs → System → System
 system_by c o i x =
     let ig = grants o.fetch.valid x.iport in
     let dg = grants o.load_store.valid x.dport in
     record {
-      main = core_next_by c x.main (record i { igrant = ig; dgrant = dg });
+      main = next_by c x.main (record i { igrant = ig; dgrant = dg });
       regs = put_reg o.write x.regs;
       tags = put_tags o.filling x.tags;
       lines = put_lines o.filling x.lines;
@@ -149,7 +153,7 @@ unfoldable pub shown_of : Setup → System → Shown
 shown_of s x = let i = in_of s x in shown_by (core_out_by (cycle_of x.main i) x.main i) x.cycle
 
 -- the system after a step, by what the core does in it and the wires in
-abbrev pub next_from : Cycle → In → System → System
+abbrev pub next_from : Cycle → Inputs → System → System
 next_from c i x = system_by c (core_out_by c x.main i) i x
 
 -- one step of the system, which is one cycle of the clock

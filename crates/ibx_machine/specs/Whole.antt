@@ -1,6 +1,6 @@
 -- What a run of the system comes to, against the history.
-use Rattle.std.specs.Prelude.{◌≡◌, ℕ, zero, suc, ◌+◌, ◌*◌, ◌<◌, ◌%◌, ◌^◌, false, map, slice_index, Option, Some, None}
-use Rattle.std.specs.Prelude.{if◌then◌else◌}
+use Rattle.std.specs.Prelude.{◌≡◌, ℕ, zero, suc, ◌+◌, ◌*◌, ◌<◌, ◌%◌, ◌^◌, false, map, slice_index, List, Option, Some}
+use Rattle.std.specs.Prelude.{None, if◌then◌else◌}
 use Rattle.ibx_csr.specs.Fields.{values}
 use Rattle.ibx_elf.specs.Ram.{IsRamRange, IsInRam}
 use Rattle.ibx_elf.specs.Image.{image_byte}
@@ -12,8 +12,8 @@ use Rattle.ibx_secded.specs.Code.{encode_of}
 use Rattle.ibx_time.specs.BusLines.{BusLine, bus_line}
 use Rattle.ibx_time.specs.Shown.{Shown, Staged, shown}
 use Rattle.ibx_id.specs.declared.stage.IdState.{IdState}
-use Rattle.ibx_machine.specs.Core.{Core}
 use Rattle.ibx_machine.specs.System.{System, first_system, system_next, shown_of, run}
+use Rattle.ibx_core.specs.declared.state.State.{State as Core}
 
 -- the system after n steps
 unfoldable pub steps : Setup → ℕ → System → System
@@ -75,15 +75,15 @@ ShowsHistory s = (c : ℕ) → c < 2 ^ 62 → shown_in (system_at s c).main ≡ 
 
 -- the registers' words and the words of RAM are codewords of what the events left, and of the portions of the item in
 -- the stage that are granted
-pub record HoldsWords (s : Setup) (c : ℕ) (x : System) (h y : Story) : Type 0 where
-  pub regs : x.regs ≡ map (encode_of 32 7) h.state.regs
+pub record HoldsWords (s : Setup) (c : ℕ) (registers memory : List ℕ) (h y : Story) : Type 0 where
+  pub regs : registers ≡ map (encode_of 32 7) h.state.regs
   pub words : (i : ℕ) → 4 * i < s.image.ram.size
-      → slice_index x.mem.words i
+      → slice_index memory i
       ≡ encode_of 32 7 (read_bytes (memory_at (image_memory s.image) y.writes c) (s.image.ram.base + 4 * i) 4)
 
 -- before every cycle registers and RAM hold what the history left, by the words above
 abbrev pub HoldsValues : Setup → Type 0
 HoldsValues s =
     (c : ℕ) → c < 2 ^ 62
-    → HoldsWords s c (system_at s c) (told_below s c).story
+    → HoldsWords s c (system_at s c).regs (system_at s c).mem.words (told_below s c).story
     (with_item s (told_below s c).story (open_item s c (told_below s c).story))

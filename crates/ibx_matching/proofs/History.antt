@@ -8,7 +8,8 @@ use Rattle.ibx_core.specs.Core.{is_minor}
 use Rattle.ibx_time.specs.BusLines.{BusLine}
 use Rattle.ibx_time.specs.History.{Story, open_item, told_below, with_item}
 use Rattle.ibx_time.specs.Settings.{Setup}
-use Rattle.ibx_machine.specs.Core.{In, core_out as machine_out}
+use Rattle.ibx_core.specs.Inputs.{Inputs}
+use Rattle.ibx_machine.specs.Core.{core_out as machine_out}
 use Rattle.ibx_machine.specs.System.{Shown, System, happens_at, run as machine_run, shown_by, shown_of, system_next}
 use Rattle.ibx_machine.specs.System.{with_event}
 use Rattle.ibx_machine.specs.Whole.{HoldsWords, shown_in, system_at, wires_in}
@@ -21,14 +22,15 @@ use Rattle.ibx_flips.proofs.RealCore.{core_laws}
 use Rattle.ibx_matching.specs.Cycles.{SameOut}
 use Rattle.ibx_soc.specs.Cycles.{alerts_with, cycle_of, soc_next}
 use Rattle.ibx_matching.specs.Laws.{IsHistory, after, events_of, line_of}
-use Rattle.ibx_matching.specs.Projection.{IsStart, machine_system}
-use Rattle.ibx_matching.specs.Translation.{machine_core}
+use Rattle.ibx_matching.specs.Projection.{IsStart}
 use Rattle.ibx_matching.proofs.Echoes.{untold}
 use Rattle.ibx_matching.proofs.Inputs.{input_is}
 use Rattle.ibx_matching.proofs.Minors.{minor_quiet}
 use Rattle.ibx_matching.proofs.Outputs.{out_is}
 use Rattle.ibx_matching.proofs.Runs.{Along, addressed, along, along_next, along_start, step_along}
 use Rattle.ibx_matching.proofs.Steps.{puts}
+use Rattle.ibx_matching.proofs.Systems.{machine_system}
+use Rattle.ibx_matching.proofs.Reset.{start_is}
 
 -- ---- what a step shows
 
@@ -37,7 +39,7 @@ shows : (s : Setup) (c : ℕ) (w : Whole State) → Along s c w
     → shown_of s (machine_system w) ≡ shown_by (puts w) w.place.cycle
 unfolding shown_of
 shows s c w a =
-    ap (λ (i : In). shown_by (machine_out (machine_core w.main) i) w.place.cycle)
+    ap (λ (i : Inputs). shown_by (machine_out w.main i) w.place.cycle)
     (input_is s w a.settings a.words.pending)
 
 -- and that is what the wires say
@@ -115,12 +117,12 @@ pub two_core_laws : (s : Setup) → IsPlaced s → (w : Whole State) → IsStart
 two_core_laws s ok w i =
     let l : Laws s = system_laws s ok in
     record {
-      events = λ n low. events_are s ok n 0 w (along_start s w i) ∙ ap (machine_run s n) i.system ∙ l.events n low;
+      events = λ n low. events_are s ok n 0 w (along_start s w i) ∙ ap (machine_run s n) (start_is s w i) ∙ l.events n low;
       wires = λ c low. line_is s ok c (after w c) (along s ok w i c) ∙ l.wires c low;
       quiet = λ c low. quiet_along s ok c (after w c) (along s ok w i c) (l.quiet c low);
       fields = λ c low. ap (λ (y : System). shown_in y.main) (along s ok w i c).system ∙ l.fields c low;
       words = λ c low.
           let h : Story = (told_below s c).story in
-          subst (λ (y : System). HoldsWords s c y h (with_item s h (open_item s c h))) (sym (along s ok w i c).system)
+          subst (λ (y : System). HoldsWords s c y.regs y.mem.words h (with_item s h (open_item s c h))) (sym (along s ok w i c).system)
           (l.words c low);
     }

@@ -9,15 +9,16 @@ use Rattle.ibx_icache.specs.declared.lookup.Look.{Look}
 use Rattle.ibx_icache.specs.WordPort.{looked}
 use Rattle.ibx_core.specs.declared.state.State.{State}
 use Rattle.ibx_core.specs.Core.{reads_of}
-use Rattle.ibx_core.specs.Sights.{mul_of, ra_of, rb_of, row_of}
+use Rattle.ibx_core.specs.Inputs.{inputs_of, mul_of}
+use Rattle.ibx_core.specs.Sights.{ra_of, rb_of, row_of}
 use Rattle.ibx_core.specs.Wires.{InWires}
 use Rattle.ibx_time.specs.Settings.{Setup}
 use Rattle.ibx_machine.specs.System.{in_of, line_place, set_slot}
 use Rattle.ibx_flips.specs.Core.{core_parts}
 use Rattle.ibx_flips.specs.System.{Settings, Whole, changed, half_of, line_index, look, set_of, shown, tag_index}
 use Rattle.ibx_soc.specs.First.{mul_number}
-use Rattle.ibx_matching.specs.Projection.{machine_system, settings_in}
-use Rattle.ibx_matching.specs.Translation.{machine_in}
+use Rattle.ibx_matching.specs.Projection.{settings_in}
+use Rattle.ibx_matching.proofs.Systems.{machine_system}
 
 -- the answer of a port
 abbrev shown_rsp : Bool → Bool → ℕ → Rsp
@@ -73,7 +74,7 @@ mul_is Slow = refl
 
 -- with the setup's settings
 shown_is : (s : Setup) (w : Whole State) → w.place.settings ≡ settings_in s
-    → in_of s (machine_system w) ≡ machine_in (shown w.place (reads_of w.main))
+    → in_of s (machine_system w) ≡ inputs_of (shown w.place (reads_of w.main))
 unfolding in_of shown reads_of row_of ra_of rb_of
 shown_is s w e =
     let irsp = rsp_is w.place.iport in
@@ -96,8 +97,8 @@ shown_is s w e =
 
 -- without a flip of a word that is shown
 pub input_is : (s : Setup) (w : Whole State) → w.place.settings ≡ settings_in s → w.place.pending ≡ None
-    → in_of s (machine_system w) ≡ machine_in (look core_parts w.place w.main)
+    → in_of s (machine_system w) ≡ inputs_of (look core_parts w.place w.main)
 unfolding core_parts changed
 input_is s w e none =
     let i : InWires = shown w.place (reads_of w.main) in
-    shown_is s w e ∙ subst (λ p. machine_in i ≡ machine_in (changed p i)) (sym none) refl
+    shown_is s w e ∙ subst (λ p. inputs_of i ≡ inputs_of (changed p i)) (sym none) refl

@@ -14,8 +14,7 @@ use Rattle.ibx_time.specs.Settings.{Setup}
 use Rattle.ibx_time.specs.Streams.{Stream}
 use Rattle.ibx_machine.specs.System.{put_reg}
 use Rattle.ibx_joining.proofs.Links.{Link, idle, pending}
-use Rattle.ibx_matching.specs.Cycles.{IsAddressed}
-use Rattle.ibx_matching.specs.Translation.{put_low}
+use Rattle.ibx_matching.specs.Cycles.{IsAddressed, put_low}
 
 -- a request that is outstanding has an address of 32 bits
 pub link_addressed : (s : Setup) (log : List Write) (x : Stream) (q c e : ℕ) (busy : Bool) (w : WordPort)

@@ -1,10 +1,6 @@
-pub mod Sights
-pub mod Turns
-pub mod Effects
-pub mod Entries
+pub mod Systems
 pub mod Unused
 pub mod Heard
-pub mod Cycles
 pub mod Writes
 pub mod Fillings
 pub mod Outputs

@@ -15,20 +15,18 @@ use Rattle.ibx_icache.specs.Doing.{doing_of, wires_by}
 use Rattle.ibx_icache.specs.WordPort.{WordIn, after_request, alerts_of as port_alerts, filling_of, is_bad_word}
 use Rattle.ibx_icache.specs.WordPort.{out_by as port_out, out_of, wires_of}
 use Rattle.ibx_csr.specs.Fields.{glitch_of}
-use Rattle.ibx_core.specs.Core.{Cycle as CoreCycle}
+use Rattle.ibx_core.specs.Core.{Cycle}
 use Rattle.ibx_core.specs.declared.state.State.{State}
 use Rattle.ibx_core.specs.Core.{alerts_of, core_out, cycle_of, gives, is_flipped, is_minor, is_write, out_by, out_with}
 use Rattle.ibx_core.specs.Core.{port_of, reads_of, write_register, write_word}
 use Rattle.ibx_core.specs.Fields.{bit}
-use Rattle.ibx_core.specs.Sights.{drsp_of, irsp_of}
+use Rattle.ibx_core.specs.Inputs.{drsp_of, inputs_of, irsp_of}
 use Rattle.ibx_core.specs.Wires.{InWires, OutWires}
-use Rattle.ibx_machine.specs.Core.{Cycle, core_out as machine_out, core_out_by}
+use Rattle.ibx_machine.specs.Core.{core_out as machine_out, core_out_by}
 use Rattle.ibx_flips.specs.System.{put_if}
-use Rattle.ibx_matching.specs.Cycles.{IsAddressed, SameCycle, SameOut}
-use Rattle.ibx_matching.specs.Translation.{machine_core, machine_cycle, machine_in, put_low}
-use Rattle.ibx_matching.proofs.Cycles.{cycle_is, fields_are}
+use Rattle.ibx_matching.specs.Cycles.{IsAddressed, SameCycle, SameOut, put_low}
 use Rattle.ibx_matching.proofs.Fillings.{filling_fills}
-use Rattle.ibx_matching.proofs.Heard.{out_ungated}
+use Rattle.ibx_matching.proofs.Heard.{next_ungated, out_ungated}
 use Rattle.ibx_matching.proofs.Writes.{SparesZero, cycle_spares}
 
 -- ---- the fetch
@@ -105,11 +103,11 @@ alert_is x i =
 -- ---- all of them
 
 -- for a cycle
-out_by_is : (c : CoreCycle) (x : State) (i : InWires) → SparesZero c.effect.write → IsAddressed x.words
-    → SameOut (core_out_by (machine_cycle c x i) (machine_core x) (machine_in i)) (out_by c x i) (is_minor x i)
+out_by_is : (c : Cycle) (x : State) (i : InWires) → SparesZero c.effect.write → IsAddressed x.words
+    → SameOut (core_out_by c x (inputs_of i)) (out_by c x i) (is_minor x i)
 unfolding core_out_by out_by out_of out_with
 out_by_is c x i spares low =
-    let p : WordIn = port_of x i c.request c.effect.fence in
+    let p : WordIn = port_of x (inputs_of i) c.request c.effect.fence in
     let bus = bus_is (filling_of x.words p) (wires_of x.words p) (port_alerts x.words p) in
     record {
       fetch = fetch_is x.words p ∙ ap as_fetch (sym bus);
@@ -122,15 +120,13 @@ out_by_is c x i spares low =
 
 -- in a cycle
 pub out_is : (x : State) (i : InWires) → IsAddressed x.words
-    → SameOut (machine_out (machine_core x) (machine_in i)) (core_out x i) (is_minor x i)
+    → SameOut (machine_out x (inputs_of i)) (core_out x i) (is_minor x i)
 unfolding gives
 out_is x i low =
-    subst (λ (w : OutWires). SameOut (machine_out (machine_core x) (machine_in i)) w (is_minor x i))
+    subst (λ (w : OutWires). SameOut (machine_out x (inputs_of i)) w (is_minor x i))
     (sym (out_ungated x i))
-    (subst (λ (c : Cycle). SameOut (core_out_by c (machine_core x) (machine_in i)) (out_by (cycle_of x i) x i)
-    (is_minor x i)) (sym (cycle_is x i))
-    (out_by_is (cycle_of x i) x i (cycle_spares x i) low))
+    (out_by_is (cycle_of x (inputs_of i)) x i (cycle_spares x (inputs_of i)) low)
 
 -- the fields and the wires
 pub cycle_same : (x : State) (i : InWires) → SameCycle x i
-cycle_same x i = record { fields = fields_are x i; out = out_is x i }
+cycle_same x i = record { fields = sym (next_ungated x i); out = out_is x i }

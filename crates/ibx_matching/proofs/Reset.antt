@@ -1,5 +1,5 @@
 -- The system as it is opened is a first state of its setup.
-use Rattle.std.proofs.Common.{◌≡◌, ℕ, zero, suc, ◌+◌, ◌/◌, ◌^◌, ◌<◌, List, ◌∷◌, map, refl, ap, arith}
+use Rattle.std.proofs.Common.{◌≡◌, ℕ, zero, suc, ◌+◌, ◌/◌, ◌^◌, ◌<◌, List, ◌∷◌, map, refl, ap, ap₂, ◌∙◌, arith}
 use Rattle.std.specs.Prelude.{All, replicate}
 use Rattle.std.proofs.lemmas.List.Elements.{All-cons, All-nil}
 use Rattle.ibx_secded.specs.Code.{checks, column, columns, encode_of, numbers_of_weight, weight}
@@ -12,8 +12,11 @@ use Rattle.ibx_machine.specs.Whole.{IsPlaced}
 use Rattle.ibx_flips.specs.Core.{core_parts}
 use Rattle.ibx_flips.proofs.First.{codewords_at_reset, first_at_reset}
 use Rattle.ibx_soc.specs.First.{first, words_from}
-use Rattle.ibx_matching.specs.Projection.{IsStart, machine_system, opened, settings_in}
+use Rattle.ibx_matching.specs.Projection.{IsStart, opened, settings_in, place_of}
 use Rattle.ibx_matching.proofs.Fillings.{empty_tag}
+use Rattle.ibx_matching.proofs.Systems.{machine_system, system_in}
+use Rattle.ibx_flips.specs.System.{Whole}
+use Rattle.ibx_core.specs.declared.state.State.{State}
 
 -- the codeword of 0
 empty_word : encode_of 32 7 0 ≡ 0x2a00000000
@@ -38,16 +41,20 @@ words_are image addr (suc n) =
     ap (λ (l : List ℕ). encode_of 32 7 (image_word image addr) ∷ l) (words_are image (addr + 4) n)
 
 -- main with the words round it is the machine at reset
-first_is : (s : Setup) → machine_system (opened s) ≡ first_system s
-unfolding first first_system reset_of
+first_is : (s : Setup) → system_in (reset_of s.image.entry) (place_of s) ≡ first_system s
+unfolding first_system reset_of
 first_is s =
     let words = words_are s.image s.image.ram.base (s.image.ram.size / 4) in
-    λ t. record (machine_system (opened s)) {
+    λ t. record (system_in (reset_of s.image.entry) (place_of s)) {
       regs = replicate 32 (empty_word t);
       tags = replicate 512 (empty_tag t);
       lines = replicate 1024 (empty_word t);
       mem = record { base = s.image.ram.base; words = words t };
     }
+
+-- so in a first state
+pub start_is : (s : Setup) (w : Whole State) → IsStart s w → machine_system w ≡ first_system s
+start_is s w i = ap₂ system_in i.main i.place ∙ first_is s
 
 -- the system as it is opened
 pub starts : (s : Setup) → IsPlaced s → IsStart s (opened s)
@@ -61,6 +68,6 @@ starts s ok =
           first_at_reset core_parts (reset_of s.image.entry) (quiet_in, quiet_out) (quiet_in, quiet_out)
           (opened s).place refl
           (codewords_at_reset (settings_in s) words base s.plan.iwaits s.plan.dwaits low);
-      system = first_is s;
-      settings = refl;
+      main = refl;
+      place = refl;
     }

@@ -4,7 +4,8 @@ use Rattle.ibx_secded.specs.Code.{encode_of}
 use Rattle.ibx_core.specs.declared.state.State.{State}
 use Rattle.ibx_time.specs.History.{Story, told_below}
 use Rattle.ibx_time.specs.Settings.{Setup}
-use Rattle.ibx_machine.specs.Core.{In, core_out as machine_out}
+use Rattle.ibx_core.specs.Inputs.{Inputs}
+use Rattle.ibx_machine.specs.Core.{core_out as machine_out}
 use Rattle.ibx_machine.specs.System.{System, first_system, put_reg, system_by, system_next}
 use Rattle.ibx_machine.specs.Whole.{steps, system_at}
 use Rattle.ibx_joining.proofs.Phases.{Phases}
@@ -14,19 +15,20 @@ use Rattle.ibx_machine.specs.Whole.{IsPlaced}
 use Rattle.ibx_theorem.proofs.Theorem.{remaining}
 use Rattle.ibx_flips.specs.Core.{core_parts}
 use Rattle.ibx_flips.specs.Flips.{Codewords, run}
-use Rattle.ibx_flips.specs.System.{Whole, next, settle}
+use Rattle.ibx_flips.specs.System.{Whole, next, settle, Place}
 use Rattle.ibx_flips.proofs.Codewords.{ready_next}
 use Rattle.ibx_flips.proofs.RealCore.{core_laws}
 use Rattle.ibx_flips.proofs.Runs.{run_more}
 use Rattle.ibx_plan.specs.declared.site.Site.TheVariants as site
-use Rattle.ibx_matching.specs.Cycles.{IsAddressed}
+use Rattle.ibx_matching.specs.Cycles.{IsAddressed, put_low}
 use Rattle.ibx_matching.specs.Laws.{after}
-use Rattle.ibx_matching.specs.Projection.{IsStart, machine_system, settings_in}
-use Rattle.ibx_matching.specs.Translation.{machine_core, put_low}
+use Rattle.ibx_matching.specs.Projection.{IsStart, settings_in}
 use Rattle.ibx_matching.proofs.Echoes.{Echoes, echoes_next, none}
 use Rattle.ibx_matching.proofs.Inputs.{input_is}
 use Rattle.ibx_matching.proofs.Kept.{link_addressed, low_write}
 use Rattle.ibx_matching.proofs.Steps.{puts, step_is}
+use Rattle.ibx_matching.proofs.Systems.{machine_system}
+use Rattle.ibx_matching.proofs.Reset.{start_is}
 
 -- ---- the machine's run
 
@@ -61,7 +63,7 @@ regs_next : (s : Setup) (w : Whole State) → w.place.settings ≡ settings_in s
     → (system_next s (machine_system w)).regs ≡ put_reg (puts w).write w.place.registers
 unfolding system_next system_by
 regs_next s w e n =
-    ap (λ (i : In). put_reg (machine_out (machine_core w.main) i).write w.place.registers) (input_is s w e n)
+    ap (λ (i : Inputs). put_reg (machine_out w.main i).write w.place.registers) (input_is s w e n)
 
 -- a value that is written has 32 bits
 low_value : (s : Setup) → IsPlaced s → (c : ℕ) (w : Whole State) → Along s c w
@@ -108,7 +110,7 @@ along_next s ok c w a = record {
 pub along_start : (s : Setup) (w : Whole State) → IsStart s w → Along s 0 w
 unfolding steps
 along_start s w i =
-    record { system = i.system; settings = i.settings; echoes = none i.first.age i.first.cores; words = i.first.words }
+    record { system = start_is s w i; settings = ap (λ (e : Place). e.settings) i.place; echoes = none i.first.age i.first.cores; words = i.first.words }
 
 -- at every cycle
 pub along : (s : Setup) → IsPlaced s → (w : Whole State) → IsStart s w → (c : ℕ) → Along s c (after w c)

@@ -1,21 +1,27 @@
--- What it means that a cycle of the core in code is a cycle of the machine of the time equations.
-use Rattle.std.specs.Prelude.{◌≡◌, ℕ, ◌^◌, ◌<◌, Bool, ◌||◌, List}
+-- What it means that the wires out of the core in code are what the machine of the time equations puts out.
+use Rattle.std.specs.Prelude.{◌≡◌, ℕ, ◌%◌, ◌^◌, ◌<◌, Bool, ◌||◌, List, slice_set, Option, Some, None}
+use Rattle.ibx_secded.specs.Code.{encode_of}
 use Rattle.ibx_icache.specs.declared.doing.Doing.TheVariants.{AwaitsSecond}
 use Rattle.ibx_icache.specs.declared.port.WordPort.{WordPort}
 use Rattle.ibx_icache.specs.declared.writes.Filling.{Filling}
 use Rattle.ibx_icache.specs.Doing.{doing_of}
 use Rattle.ibx_core.specs.declared.state.State.{State}
-use Rattle.ibx_core.specs.Core.{core_next, core_out, is_minor}
+use Rattle.ibx_core.specs.Core.{core_next, core_out, is_minor, leaves}
+use Rattle.ibx_core.specs.Inputs.{inputs_of}
 use Rattle.ibx_core.specs.Wires.{InWires, OutWires}
-use Rattle.ibx_machine.specs.Core.{Out, core_next as machine_next, core_out as machine_out}
+use Rattle.ibx_machine.specs.Core.{Out, core_out as machine_out}
 use Rattle.ibx_machine.specs.System.{put_lines, put_tags}
 use Rattle.ibx_flips.specs.Core.{is_alert}
 use Rattle.ibx_flips.specs.System.{fetch_of, lines_after, load_store_of, registers_after, tags_after}
-use Rattle.ibx_matching.specs.Translation.{machine_core, machine_in, put_low}
 
 -- the address of a line that is stored has 32 bits, as every address in code has
 abbrev pub IsAddressed : WordPort → Type 0
 IsAddressed w = doing_of w.c_state ≡ AwaitsSecond → w.c_addr < 2 ^ 32
+
+-- the register file after the write of the low 32 bits of a value; the machine writes the value as it is
+abbrev pub put_low : Option (ℕ × ℕ) → List ℕ → List ℕ
+put_low None regs = regs
+put_low (Some w) regs = slice_set regs w.0 (encode_of 32 7 (w.1 % 2 ^ 32))
 
 -- the wires that write the cache put the words of a filling
 pub record Fills (f : Filling) (w : OutWires) : Type 0 where
@@ -31,7 +37,7 @@ pub record SameOut (o : Out) (w : OutWires) (minor : Bool) : Type 0 where
   pub cache : Fills o.filling w
   pub alerts : is_alert w ≡ (minor || o.alerts)
 
--- the fields after a cycle, and what is put out in it
+-- the gate of unused words changes nothing of the fields after a cycle, nor of what is put out in it
 pub record SameCycle (x : State) (i : InWires) : Type 0 where
-  pub fields : machine_next (machine_core x) (machine_in i) ≡ machine_core (core_next x i)
-  pub out : IsAddressed x.words → SameOut (machine_out (machine_core x) (machine_in i)) (core_out x i) (is_minor x i)
+  pub fields : leaves x i ≡ core_next x i
+  pub out : IsAddressed x.words → SameOut (machine_out x (inputs_of i)) (core_out x i) (is_minor x i)

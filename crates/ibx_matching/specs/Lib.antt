@@ -1,4 +1,3 @@
-pub mod Translation
 pub mod Cycles
 pub mod Projection
 pub mod Laws

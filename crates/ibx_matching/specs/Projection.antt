@@ -1,4 +1,4 @@
--- The system of two cores as the machine's: main with the words round it, without the shadow and the delayed pairs.
+-- The setup of a run of the two cores, and their first state. Our own rule.
 use Rattle.std.specs.Prelude.{◌≡◌, ℕ, ◌^◌, ◌<◌, All, List}
 use Rattle.ibx_isa.specs.declared.insn.MulKind.{MulKind}
 use Rattle.ibx_elf.specs.declared.ram.Ram.{Ram}
@@ -6,14 +6,13 @@ use Rattle.ibx_elf.specs.Image.{image_of}
 use Rattle.ibx_plan.specs.declared.entry.Change.{Change}
 use Rattle.ibx_plan.specs.Plan.{PlanValue}
 use Rattle.ibx_core.specs.declared.state.State.{State}
+use Rattle.ibx_core.specs.Fields.{reset_of}
 use Rattle.ibx_time.specs.Settings.{Setup}
-use Rattle.ibx_machine.specs.System.{System, first_system}
 use Rattle.ibx_flips.specs.Core.{core_parts}
 use Rattle.ibx_flips.specs.Flips.{IsFirst}
-use Rattle.ibx_flips.specs.System.{Settings, Whole}
+use Rattle.ibx_flips.specs.System.{Place, Settings, Whole}
 use Rattle.ibx_soc.specs.declared.config.Config.{Config}
-use Rattle.ibx_soc.specs.First.{first, settings_of}
-use Rattle.ibx_matching.specs.Translation.{machine_core}
+use Rattle.ibx_soc.specs.First.{first, first_place, image_words, settings_of}
 
 -- the setup of a file's image in this RAM
 abbrev pub of_file : List ℕ → Ram → MulKind → PlanValue → Setup
@@ -31,24 +30,16 @@ config_of s = record { ram = s.image.ram; mul = s.mul }
 abbrev pub settings_in : Setup → Settings
 settings_in s = settings_of (config_of s) s.plan
 
--- main with the words round it
-abbrev pub machine_system : Whole State → System
-machine_system w = record {
-  main = machine_core w.main;
-  regs = w.place.registers;
-  tags = w.place.tags;
-  lines = w.place.lines;
-  mem = w.place.memory;
-  iport = w.place.iport;
-  dport = w.place.dport;
-  cycle = w.place.cycle;
-}
+-- the words round the cores at reset, for the setup's image and waits
+abbrev pub place_of : Setup → Place
+place_of s =
+    first_place (image_words s.image) s.image.ram.base (settings_in s) s.plan.iwaits s.plan.dwaits
 
--- a first state of the two cores, with the setup's memory, waits, lines and multiplier
+-- a first state of the two cores: main at reset, and round it the setup's memory, waits, lines and multiplier
 pub record IsStart (s : Setup) (w : Whole State) : Type 0 where
   pub first : IsFirst core_parts w
-  pub system : machine_system w ≡ first_system s
-  pub settings : w.place.settings ≡ settings_in s
+  pub main : w.main ≡ reset_of s.image.entry
+  pub place : w.place ≡ place_of s
 
 -- the system as it is opened
 abbrev pub opened : Setup → Whole State

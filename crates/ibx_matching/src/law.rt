@@ -13,7 +13,8 @@ ghost use Rattle.ibx_matching.specs.Cycles.{SameCycle};
 ghost use Rattle.ibx_matching.specs.Projection.{AreWords, IsStart, of_file, opened};
 ghost use Rattle.ibx_matching.specs.Laws.{IsHistory};
 
-/// A cycle of the core is one of the machine of the time equations, for every value of its fields and of the wires.
+/// The gate of unused words changes nothing of what a cycle of the core leaves, and its wires out are what the machine
+/// of the time equations puts out, for every value of its fields and of the wires.
 pub fn same_cycle()
     ensures { (x : State) (i : InWires) → SameCycle x i }
 {}

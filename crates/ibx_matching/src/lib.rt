@@ -1,5 +1,5 @@
-//! The core in code is the machine of the time equations: the same cycle, in other records and on other wires. So the
-//! steps of the system without a flip are the history.
+//! The system of two cores is the machine of the time equations: the same cycle, with other words round it. So its
+//! steps without a flip are the history.
 #![tactic(auto)]
 
 mod law;

@@ -31,7 +31,6 @@ use Rattle.ibx_time.specs.History.{view_with, words_there}
 use Rattle.ibx_time.specs.Shown.{staged_by}
 use Rattle.ibx_time.proofs.Controls.{ctl_of-counters}
 use Rattle.ibx_time.proofs.Views.{view_interrupt}
-use Rattle.ibx_machine.specs.Core.{Entry, enters, entry_by, fetched_of, may_execute}
 use Rattle.ibx_joining.proofs.Fetches.{Shows, is_unmapped}
 use Rattle.ibx_joining.proofs.Stages.{Empty, EmptyEnd, ItemAt, fault_by, fault_of, fetched, fresh, starts}
 use Rattle.ibx_joining.proofs.Ties.{IsState, Tied}
@@ -43,6 +42,7 @@ use Rattle.ibx_tying.proofs.AdmitsParts.{grows, same_wires, starts_portion}
 use Rattle.ibx_prefetch.specs.declared.buffer.Head.{Head}
 use Rattle.ibx_id.specs.declared.stage.IdState.{IdState}
 use Rattle.ibx_id.specs.Turns.{empty_stage}
+use Rattle.ibx_core.specs.Entries.{Entry, enters, entry_by, fetched_of, may_execute}
 
 -- ---- the search
 
@@ -348,7 +348,7 @@ allows v addr = allowed (cfg_bytes v) v.pmpaddr addr 2 Execute v.machine
 
 -- it does so by the fields, by the registers and whatever the counters
 allows_fields : (csrs : Csrs) (addr : ℕ) → addr % 2 ≡ 0 → may_execute csrs addr ≡ allows (values csrs) addr
-unfolding values
+unfolding values may_execute allowed
 allows_fields csrs addr e = ap (allows (values csrs)) (halved addr e)
   where
     halved : (n : ℕ) → n % 2 ≡ 0 → n / 2 * 2 ≡ n
@@ -382,6 +382,7 @@ pair_comes : (s : Setup) (h : Story) (c next_pc : ℕ) (csrs : Csrs) (regs : Lis
     head.second
     → ComesTo s h c (counted_in (ctl_of (values csrs)) h.times.dummies)
     (fetched_of head csrs h.times.dummies h.state.pc)
+unfolding fetched_of may_execute values
 pair_comes s h c next_pc csrs regs head t i f g =
     let counted : Dummy = counted_in (ctl_of (values csrs)) h.times.dummies in
     subst (λ r. Comes (comes_by r (ready2 s h c) (sound1 h) (is_pair s h)) (sound1 h) (is_pair s h) (sound2 h)

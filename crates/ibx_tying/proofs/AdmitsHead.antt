@@ -3,7 +3,6 @@ use Rattle.std.proofs.Common.{◌≡◌, ℕ, zero, suc, ◌+◌, ◌%◌, ◌^�
 use Rattle.std.proofs.Common.{subst, ◌∙◌, arith, add-zero}
 use Rattle.std.specs.Prelude.{◌==◌, ◌||◌, ◌&&◌, if◌then◌else◌, nat_le}
 use Rattle.std.proofs.lemmas.Bool.{eq-eqb}
-use Rattle.ibx_machine.specs.Core.{Entry, enters, fetched_by}
 use Rattle.ibx_isa.specs.Lengths.{is_long}
 use Rattle.ibx_arch.specs.declared.fetched.Fetched.TheVariants.{Unsound}
 use Rattle.ibx_time.specs.Settings.{Settings}
@@ -14,6 +13,7 @@ use Rattle.ibx_joining.proofs.Stages.{fault_of}
 use Rattle.ibx_joining.proofs.ArchSide.{fetched_word, parcels_by}
 use Rattle.ibx_tying.proofs.Fetches.{fetch_by, next_apart}
 use Rattle.ibx_id.specs.Turns.{empty_stage}
+use Rattle.ibx_core.specs.Entries.{Entry, enters, fetched_by}
 
 -- by whether the two parcels are ready, the first is sound, and it is long
 abbrev pub comes_by : Bool → Bool → Bool → Bool → Bool

@@ -16,7 +16,6 @@ use Rattle.ibx_time.specs.Memories.{memory_at}
 use Rattle.ibx_time.specs.Times.{ADummy, AnInstruction, AnInterrupt, Kind}
 use Rattle.ibx_time.specs.History.{Story, brought_parcels, choice_by, item_at, item_by, kind_of, taken, view_with}
 use Rattle.ibx_time.specs.Shown.{staged_by}
-use Rattle.ibx_machine.specs.Core.{effect_by, ra_of, rb_of, sight_by, sight_of}
 use Rattle.ibx_id.specs.declared.stage.IdState.{IdState}
 use Rattle.ibx_machine.specs.System.{System, in_of}
 use Rattle.ibx_joining.proofs.Stages.{ItemAt, PhaseAt, fault_by, fault_of, found, fresh, later, portion_phase}
@@ -34,6 +33,8 @@ use Rattle.ibx_tying.proofs.EndsInsn.{Case, Ended, Known, effect_now}
 use Rattle.ibx_tying.proofs.EndsJoin.{OthersIn, Seen, fetched_ends}
 use Rattle.ibx_tying.proofs.EndsStage.{Fields, IsFetch, fetch_good, log_low, parcel_low}
 use Rattle.ibx_tying.proofs.EndsViews.{step_after, view_same}
+use Rattle.ibx_core.specs.Effects.{effect_by}
+use Rattle.ibx_core.specs.Sights.{ra_of, rb_of, sight_of, sight_with}
 
 -- ---- the case
 
@@ -54,7 +55,7 @@ case_of s t h st = record {
 -- the stage sees by its fields
 seen_is : (s : Setup) (t : ℕ) (h : Story) (st : System)
     → Seen (case_of s t h st) (slice_index st.regs (ra_of st.main.id)) (slice_index st.regs (rb_of st.main.id))
-unfolding sight_by in_of
+unfolding sight_of sight_with in_of
 seen_is s t h st = record { row = refl; a = refl; b = refl; access = refl; cause = refl }
 
 -- the lines are those of the plan
@@ -248,7 +249,7 @@ ends_by : (s : Setup) (limit t : ℕ) (h : Story) (st : System) (kind : Kind) �
     → Ends s limit t h st.cycle st.main.id st.main.md st.main.ls st.dport
     (eyes_in s st.cycle st.main.id st.main.csrs st.regs)
     → Left s limit t h st.cycle (effect_by (sight_of st.main (in_of s st)).turn st.main (sight_of st.main (in_of s st))
-    (in_of s st)) st.regs
+    (in_of s st).lines) st.regs
 ends_by s limit t h st (AnInterrupt number) units ok ti i d a ph k n =
     interrupt_ends s limit t h st.cycle number st.regs st.main (sight_of st.main (in_of s st)) (in_of s st) ti i d k
     n.done

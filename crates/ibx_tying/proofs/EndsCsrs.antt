@@ -32,7 +32,6 @@ use Rattle.ibx_dummy.specs.Dummies.{seeded}
 use Rattle.ibx_dummy.specs.declared.unit.Dummy.{Dummy}
 use Rattle.ibx_time.specs.Items.{Item, parcels_of, plain, retired_item}
 use Rattle.ibx_time.proofs.Controls.{ctl_of-counters, ctl_of-tick, ctl_of-write}
-use Rattle.ibx_machine.specs.Core.{cause_of, csr_value, lacks_value, retired_by, retires, retires_csr, ticked}
 use Rattle.ibx_joining.proofs.Ties.{IsValues}
 use Rattle.ibx_tying.proofs.Fetches.{handed, returned}
 use Rattle.ibx_tying.proofs.EndsCsr.{write_idle, seed_controls}
@@ -44,6 +43,9 @@ use Rattle.ibx_tying.proofs.EndsPlain.{low_reg, next_even}
 use Rattle.ibx_tying.proofs.EndsSimple.{RowEnds, illegal_ends}
 use Rattle.ibx_tying.proofs.EndsValues.{later_values, tick_values, trap_values, value_low, write_values}
 use Rattle.ibx_csr.specs.Bits.{is_control_at}
+use Rattle.ibx_core.specs.Sights.{cause_of, lacks_value, access_by, row_cause, csr_cause}
+use Rattle.ibx_core.specs.Effects.{csr_value, retires, ticked, outcome_by, plain_outcome, csr_outcome, csr_written}
+use Rattle.ibx_tying.proofs.EndsRows.{retires_as, retires_to}
 
 -- ---- FENCE.I
 
@@ -68,7 +70,7 @@ values_now m wrote k =
 
 -- FENCE.I ends as its step
 pub fencei_ends : (m : Case) (word len lines : ℕ) → RowEnds m word len lines FenceI
-unfolding execute finished retired_by retired_item
+unfolding execute finished outcome_by plain_outcome retired_item access_by
 fencei_ends m word len lines k t hd =
     let next : ℕ = (m.h.state.pc + len) % 2 ^ 32 in
     let item : m.i ≡ row_of_item m word FenceI (fence_step m word len) =
@@ -78,7 +80,7 @@ fencei_ends m word len lines k t hd =
     any_ends m word len 0 0 next FenceI None None m.h.state.memory (now_values m) (ticked m.core) m.core.dummies true
     m.i.redirects
     k t hd hd.access (tick_of_core m k) (ticked_complement m.core.csrs true None k.complemented) (values_now m None k)
-    (ap (λ x. record (retires m.core m.g m.i.redirects 0 0 None x (ticked m.core)) { fence = true })
+    (ap (λ x. retires_to m.core m.g m.i.redirects 0 0 None x (ticked m.core) m.core.dummies true)
     (next_is m word len k hd.word_is hd.len_is))
     refl (sym (ap (λ (j : Item). j.fences) item)) k.dummies (ticked_ctl m k)
     (λ q. length_is m.h.state.pc len word hd.len_is
@@ -135,7 +137,7 @@ back_step m word b = finished (now m).pc (now m).regs m.c word (operands (now m)
 
 -- in U mode it is illegal, and else it returns
 back_cause : (m : Case) → Known m → (now m).csrs.machine ≡ false → cause_of m.core.csrs 0 (Some Mret) ≡ Some 2
-unfolding cause_of values
+unfolding cause_of values row_cause
 back_cause m k e = ap (λ (w : CsrValues). cause_by w.machine) k.csrs ∙ ap cause_by e
   where
     cause_by : Bool → Option ℕ
@@ -144,7 +146,7 @@ back_cause m k e = ap (λ (w : CsrValues). cause_by w.machine) k.csrs ∙ ap cau
 -- MRET ends as its step, by its mode: a trap in U mode, else a return to mepc
 back_by : (m : Case) (word len : ℕ) (b : Bool) → (now m).csrs.machine ≡ b → Known m → Meets m (back_step m word b)
     → Holds m word len Mret (view_of (back_step m word b).event) → Ended m (effect_now m) (back_step m word b)
-unfolding finished retired_by retired_item
+unfolding finished outcome_by plain_outcome retired_item access_by
 back_by m word len false e k t hd =
     illegal_ends m word (operands (now m) Mret) k t (hd.cause ∙ back_cause m k e) hd.fetched hd.word_low
 back_by m word len true e k t hd =
@@ -159,7 +161,7 @@ back_by m word len true e k t hd =
     m.i.redirects
     k t hd hd.access (left_is m k) (regs_complement (ticked m.core) (leave_of (trap_regs (values m.core.csrs)))
     (ticked_complement m.core.csrs true None k.complemented)) (left_low m k)
-    (ap (λ x. retires m.core m.g m.i.redirects 0 0 None x (left_fields m)) (mepc_is m k))
+    (ap (λ x. retires_as m.core m.g m.i.redirects 0 0 None x (left_fields m)) (mepc_is m k))
     refl (sym (ap (λ (j : Item). j.fences) item)) k.dummies
     (ap ctl_left k.ctl ∙ left_ctl m.h.state.csrs (m.c - m.h.state.stands))
     (λ q. apart (sym (ap (λ (j : Item). j.redirects) item) ∙ q))
@@ -235,7 +237,7 @@ read_is m addr k = ap (λ w. csr_read w addr m.inn.lines) k.csrs ∙ ap (csr_rea
 cause_lacks : (m : Case) (op : CsrOp) (rd src addr : ℕ) (imm : Bool) → Known m
     → csr_read (now m).csrs addr (lines_in (settings_of m.s) m.c) ≡ None
     → cause_of m.core.csrs 0 (Some (Csr op rd src imm addr)) ≡ Some 2
-unfolding cause_of
+unfolding cause_of row_cause csr_cause
 cause_lacks m op rd src addr imm k e =
     ap (λ b. if b || (writes op src && not (csr_can_write (values m.core.csrs) addr)) then Some 2 else None)
     (ap (λ w. lacks_value (csr_read w addr 0)) k.csrs ∙ lacks_same (now m).csrs addr 0 (lines_in (settings_of m.s) m.c)
@@ -248,7 +250,7 @@ two_if b = if b then Some 2 else None
 -- and so is a write that isn't allowed
 cause_denied : (m : Case) (op : CsrOp) (rd src addr : ℕ) (imm : Bool) → Known m → writes op src ≡ true
     → csr_can_write (now m).csrs addr ≡ false → cause_of m.core.csrs 0 (Some (Csr op rd src imm addr)) ≡ Some 2
-unfolding cause_of
+unfolding cause_of row_cause csr_cause
 cause_denied m op rd src addr imm k w e =
     ap₂ (λ x y. two_if (lacks_value (csr_read (values m.core.csrs) addr 0) || (x && not y))) w
     (ap (λ v. csr_can_write v addr) k.csrs ∙ e)
@@ -280,14 +282,14 @@ value_is m addr old k e = ap csr_value (read_is m addr k ∙ e)
 -- the effect by whether it writes
 csr_effect : (m : Case) (op : CsrOp) (rd src addr source old next : ℕ) (imm w r : Bool) → writes op src ≡ w
     → csr_value (csr_read (values m.core.csrs) addr m.inn.lines) ≡ old → (if imm then src else m.g.a) ≡ source
-    → retired_by (Some (Csr op rd src imm addr)) r m.core m.g m.inn
-    ≡ retires_csr m.core m.g w rd old (written op old source) addr
-unfolding retired_by
+    → retires m.core m.g r (outcome_by (Some (Csr op rd src imm addr)) m.core m.g m.inn.lines)
+    ≡ retires m.core m.g r (csr_written m.core w rd old (written op old source) addr)
+unfolding outcome_by csr_outcome
 csr_effect m op rd src addr source old next imm w r ew eo es =
-    ap (λ x. retires_csr m.core m.g x rd (csr_value (csr_read (values m.core.csrs) addr m.inn.lines))
-    (written op (csr_value (csr_read (values m.core.csrs) addr m.inn.lines)) (if imm then src else m.g.a)) addr) ew
-    ∙ ap (λ x. retires_csr m.core m.g w rd x (written op x (if imm then src else m.g.a)) addr) eo
-    ∙ ap (λ x. retires_csr m.core m.g w rd old (written op old x) addr) es
+    ap (λ x. retires m.core m.g r (csr_written m.core x rd (csr_value (csr_read (values m.core.csrs) addr m.inn.lines))
+    (written op (csr_value (csr_read (values m.core.csrs) addr m.inn.lines)) (if imm then src else m.g.a)) addr)) ew
+    ∙ ap (λ x. retires m.core m.g r (csr_written m.core w rd x (written op x (if imm then src else m.g.a)) addr)) eo
+    ∙ ap (λ x. retires m.core m.g r (csr_written m.core w rd old (written op old x) addr)) es
 
 -- the registers after a write, as values and as fields
 abbrev written_values : Case → ℕ → ℕ → CsrValues
@@ -321,7 +323,7 @@ csr_some : (m : Case) (word len : ℕ) (op : CsrOp) (rd src addr source old : �
     (csr_result m op rd source addr word ((m.h.state.pc + len) % 2 ^ 32) old w can)).event)
     → Ended m (effect_now m) (csr_step m word (Csr op rd src imm addr)
     (csr_result m op rd source addr word ((m.h.state.pc + len) % 2 ^ 32) old w can))
-unfolding finished
+unfolding finished csr_written plain_outcome access_by
 csr_some m word len op rd src addr source old imm false can ew ec eo ls es k t hd =
     let insn : Insn = Csr op rd src imm addr in
     let next : ℕ = (m.h.state.pc + len) % 2 ^ 32 in
@@ -332,11 +334,12 @@ csr_some m word len op rd src addr source old imm false can ew ec eo ls es k t h
     csr_item m word op rd src addr imm p t kind (retire_word m word insn m.h.state.memory csrs rd old None None next)
     hd.insn_is in
     let ops = hd.operands_are (no_trap_phase (view_of p.event) kind) in
-    any_ends m word len rd old next insn None None m.h.state.memory csrs (ticked m.core) m.core.dummies false false
+    any_ends m word len rd old next insn None None m.h.state.memory csrs (ticked m.core) m.core.dummies false
+    m.i.redirects
     k t hd hd.access (tick_of_core m k) (ticked_complement m.core.csrs true None k.complemented) (values_now m None k)
     (csr_effect m op rd src addr source old next imm false m.i.redirects ew (value_is m addr old k eo) (es ops.0)
-    ∙ ap (λ x. retires m.core m.g false rd old None x (ticked m.core)) (next_is m word len k hd.word_is hd.len_is))
-    (sym (ap (λ (j : Item). j.redirects) item)) (sym (ap (λ (j : Item). j.fences) item)) k.dummies (ticked_ctl m k)
+    ∙ ap (λ x. retires_as m.core m.g m.i.redirects rd old None x (ticked m.core)) (next_is m word len k hd.word_is hd.len_is))
+    refl (sym (ap (λ (j : Item). j.fences) item)) k.dummies (ticked_ctl m k)
     (λ q. length_is m.h.state.pc len word hd.len_is
     ∙ ap (λ n. (m.h.state.pc + 2 * n) % 2 ^ 32) (sym (ap (λ (j : Item). j.parcels) item)))
     (k.memory (ap (λ (j : Item). j.portions) item)) k.good.ram_is k.good.bytes
@@ -361,16 +364,17 @@ csr_some m word len op rd src addr source old imm true true ew ec eo ls es k t h
     let low : old < 2 ^ 32 = old_low (now m).csrs addr (lines_in (settings_of m.s) m.c) old
     (later_values m.h.state.csrs (m.c - m.h.state.stands) k.good.csrs) k.lines_low eo in
     let dd : Dummy = if addr == 0x7c1 then seeded value m.core.dummies else m.core.dummies in
-    any_ends m word len rd old next insn None ctlw m.h.state.memory csrs (written_fields m addr value) dd false false
+    any_ends m word len rd old next insn None ctlw m.h.state.memory csrs (written_fields m addr value) dd false
+    m.i.redirects
     k t hd hd.access (fields_are m addr value k)
     (write-sound (tick_of m.core.csrs true (Some addr)) addr value
     (ticked_complement m.core.csrs true (Some addr) k.complemented))
     (write_values (csr_tick (now m).csrs true (Some addr)) addr value (values_now m (Some addr) k)
     (written_low op old source low ls))
     (csr_effect m op rd src addr source old next imm true m.i.redirects ew (value_is m addr old k eo) (es ops.0)
-    ∙ ap (λ x. record (retires m.core m.g false rd old ctlw x (written_fields m addr value)) { dummies = dd })
+    ∙ ap (λ x. retires_to m.core m.g m.i.redirects rd old ctlw x (written_fields m addr value) dd false)
     (next_is m word len k hd.word_is hd.len_is))
-    (sym (ap (λ (j : Item). j.redirects) item)) (sym (ap (λ (j : Item). j.fences) item))
+    refl (sym (ap (λ (j : Item). j.fences) item))
     (ap (λ x. if addr == 0x7c1 then seeded value x else x) k.dummies
     ∙ seed_is m.d op rd src value addr imm (is_control_at addr) refl)
     (control_is (csr_tick (now m).csrs true (Some addr)) m.h.times.ctl op rd src value addr imm (is_control_at addr)

@@ -11,7 +11,6 @@ use Rattle.ibx_time.specs.Memories.{Write, memory_at, writes_with}
 use Rattle.ibx_time.specs.Times.{Times, target_if}
 use Rattle.ibx_time.specs.Requests.{Transaction}
 use Rattle.ibx_time.specs.History.{Story, access_at, access_by, choice_at, done_at, ended_by, item_at, item_by, taken}
-use Rattle.ibx_machine.specs.Core.{Core, In, Sight, effect_by, rests}
 use Rattle.ibx_id.specs.declared.stage.Turn.TheVariants.{Dummy}
 use Rattle.ibx_id.specs.declared.stage.Turn.{Turn}
 use Rattle.ibx_joining.proofs.Fetches.{pc_in}
@@ -20,6 +19,10 @@ use Rattle.ibx_joining.proofs.Ties.{IsBefore, IsState, Tied}
 use Rattle.ibx_joining.proofs.ArchSide.{Left, StillTied}
 use Rattle.ibx_joining.proofs.Rests.{arch_rests, later_before, later_granted}
 use Rattle.ibx_tying.proofs.EndsFrame.{Keeps, Leaves, keeps, leaves}
+use Rattle.ibx_core.specs.declared.state.State.{State as Core}
+use Rattle.ibx_core.specs.declared.sight.Sight.{Sight}
+use Rattle.ibx_core.specs.Effects.{effect_by, rests}
+use Rattle.ibx_core.specs.Inputs.{Inputs}
 
 -- what a dummy is
 record IsDummy (i : Item) : Type 0 where
@@ -54,6 +57,7 @@ stays_by : (s : Setup) (h : Story) (x : Times) (ws : List Write) (ts : List Tran
     → Keeps h (record h { times = x; writes = ws; sent = ts }) i → IsDummy i → ws ≡ h.writes → core.dummies ≡ x.dummies
     → IsBefore ws c → AreGranted ts c
     → Leaves s i c (rests core) regs (record h { times = x; writes = ws; sent = ts; done = c }) None
+unfolding rests
 stays_by s h x ws ts i c next_pc csrs regs core t st ec en k d w dm before granted =
     let still : StillTied s h (c + 1) next_pc (tick_of csrs false None) regs =
     arch_rests s h c next_pc csrs regs t st in
@@ -118,15 +122,15 @@ no_parcels : (s : Setup) (t : ℕ) (h : Story) → choice_at s t h ≡ None → 
 no_parcels s t h k = omega (arith, (item_is_dummy s t h k).parcels)
 
 -- its effect is a rest
-rests_after : (x : Core) (g : Sight) (i : In) (turn : Turn) → turn ≡ Dummy → effect_by turn x g i ≡ rests x
+rests_after : (x : Core) (g : Sight) (i : Inputs) (turn : Turn) → turn ≡ Dummy → effect_by turn x g i.lines ≡ rests x
 unfolding effect_by
-rests_after x g i turn e = ap (λ u. effect_by u x g i) e
+rests_after x g i turn e = ap (λ u. effect_by u x g i.lines) e
 
 -- so a dummy leaves what the history does
-pub dummy_ends : (s : Setup) (limit t : ℕ) (h : Story) (c : ℕ) (regs : List ℕ) (core : Core) (g : Sight) (i : In)
+pub dummy_ends : (s : Setup) (limit t : ℕ) (h : Story) (c : ℕ) (regs : List ℕ) (core : Core) (g : Sight) (i : Inputs)
     → Tied s h c core.next_pc core.csrs regs → IsState s c h → core.dummies ≡ (taken s t h).times.dummies
     → choice_at s t h ≡ None → done_at s limit t h ≡ c → IsBefore (taken s t h).writes c
-    → AreGranted (taken s t h).sent c → g.turn ≡ Dummy → Left s limit t h c (effect_by g.turn core g i) regs
+    → AreGranted (taken s t h).sent c → g.turn ≡ Dummy → Left s limit t h c (effect_by g.turn core g i.lines) regs
 dummy_ends s limit t h c regs core g i ti st dm k d before granted turn =
     subst (λ e. Left s limit t h c e regs) (sym (rests_after core g i g.turn turn))
     (leaves s limit t h c (rests core) regs None k d

@@ -26,7 +26,6 @@ use Rattle.ibx_time.specs.Streams.{Stream, redirected, redirected_to}
 use Rattle.ibx_time.specs.Times.{Times, admitted, after_event, entered, half_after, marked, target_if}
 use Rattle.ibx_time.specs.History.{Story, choice_at, continued, done_at, ended_by, event_at, event_by, item_at, taken}
 use Rattle.ibx_time.specs.History.{view_with}
-use Rattle.ibx_machine.specs.Core.{Effect}
 use Rattle.ibx_machine.specs.System.{happens_at, put_reg}
 use Rattle.ibx_joining.proofs.Fetches.{pc_in}
 use Rattle.ibx_joining.proofs.Links.{AreGranted}
@@ -34,6 +33,7 @@ use Rattle.ibx_joining.proofs.Ties.{IsBefore, IsState, IsValues, Tied}
 use Rattle.ibx_joining.proofs.ArchSide.{Left}
 use Rattle.ibx_joining.proofs.Pieces.{memory_stays}
 use Rattle.ibx_joining.proofs.Rests.{later_before, later_granted}
+use Rattle.ibx_core.specs.Effects.{Effect}
 
 -- ---- a state by itself
 

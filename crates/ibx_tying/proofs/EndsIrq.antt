@@ -27,7 +27,6 @@ use Rattle.ibx_time.specs.Memories.{Write, memory_at, write_of, writes_with, wri
 use Rattle.ibx_time.specs.Times.{AnInterrupt, kind_at, kind_by, target_if}
 use Rattle.ibx_time.specs.History.{Story, access_at, choice_at, choice_by, done_at, item_at, item_by, kind_of, taken}
 use Rattle.ibx_time.specs.History.{view_with}
-use Rattle.ibx_machine.specs.Core.{Core, In, Sight, effect_by, interrupts}
 use Rattle.ibx_joining.proofs.Links.{AreGranted}
 use Rattle.ibx_joining.proofs.Rests.{tick_is}
 use Rattle.ibx_joining.proofs.Ties.{IsBefore, IsState, Tied}
@@ -37,6 +36,10 @@ use Rattle.ibx_tying.proofs.EndsValues.{enter_even, enter_low, later_values, tic
 use Rattle.ibx_isa.specs.ControlBits.{mie_bit}
 use Rattle.ibx_id.specs.declared.stage.Turn.TheVariants.{Irq}
 use Rattle.ibx_id.specs.declared.stage.Turn.{Turn}
+use Rattle.ibx_core.specs.declared.state.State.{State as Core}
+use Rattle.ibx_core.specs.declared.sight.Sight.{Sight}
+use Rattle.ibx_core.specs.Effects.{effect_by, interrupts, rests}
+use Rattle.ibx_core.specs.Inputs.{Inputs}
 
 -- ---- the number of a pending interrupt
 
@@ -185,7 +188,7 @@ pub interrupts_does : (k : Settings) (x : State) (n c : ℕ) (core : Core) (ctl 
     → values core.csrs ≡ (at_cycle x c).csrs → core.id.pc ≡ x.pc → Complemented core.csrs → core.dummies ≡ d
     → ctl ≡ ctl_of x.csrs → v.kind ≡ 2 → i ≡ record (plain 0) { redirects = true }
     → Does c x.pc x.regs ctl d i v (interrupts core n) (step_with (lines_in k) x (Interrupt n) c)
-unfolding step_with interrupted
+unfolding step_with interrupted interrupts rests
 interrupts_does k x n c core ctl d i v ev ep ec ed ek kind ei =
     let target : enter_target (trap_regs (values core.csrs)) n true
     ≡ enter_target (trap_regs (at_cycle x c).csrs) n true = ap (λ w. enter_target (trap_regs w) n true) ev in
@@ -249,10 +252,10 @@ number_is : (a n : ℕ) → a ≡ n → n < 32 → a % 32 ≡ n
 number_is a n e l = omega (arith, e, l)
 
 -- the turn Irq enters the interrupt that the low five bits of the stage's word tell
-interrupts_after : (x : Core) (g : Sight) (i : In) (turn : Turn) (n : ℕ) → turn ≡ Irq → x.id.word % 32 ≡ n
-    → effect_by turn x g i ≡ interrupts x n
+interrupts_after : (x : Core) (g : Sight) (i : Inputs) (turn : Turn) (n : ℕ) → turn ≡ Irq → x.id.word % 32 ≡ n
+    → effect_by turn x g i.lines ≡ interrupts x n
 unfolding effect_by
-interrupts_after x g i turn n e k = ap (λ u. effect_by u x g i) e ∙ ap (interrupts x) k
+interrupts_after x g i turn n e k = ap (λ u. effect_by u x g i.lines) e ∙ ap (interrupts x) k
 
 -- no portion, no write
 no_portion_written : (portions : Portions) (b : Bool) (first second : Write) (ws : List Write) → portions ≡ NoPortion
@@ -292,11 +295,11 @@ unfolding step_with interrupted
 interrupt_memory k x n c = refl
 
 -- so an interrupt leaves what the history does
-pub interrupt_ends : (s : Setup) (limit t : ℕ) (h : Story) (c n : ℕ) (regs : List ℕ) (core : Core) (g : Sight) (i : In)
+pub interrupt_ends : (s : Setup) (limit t : ℕ) (h : Story) (c n : ℕ) (regs : List ℕ) (core : Core) (g : Sight) (i : Inputs)
     → Tied s h c core.next_pc core.csrs regs → IsState s c h → core.dummies ≡ (taken s t h).times.dummies
     → kind_of s t h ≡ AnInterrupt n → done_at s limit t h ≡ c → core.id.pc ≡ h.state.pc → core.id.word ≡ n
     → IsBefore (taken s t h).writes c → AreGranted (taken s t h).sent c → g.turn ≡ Irq
-    → Left s limit t h c (effect_by g.turn core g i) regs
+    → Left s limit t h c (effect_by g.turn core g i.lines) regs
 interrupt_ends s limit t h c n regs core g i ti st dm k d epc ew before granted turn =
     let item : item_at s t h ≡ record (plain 0) { redirects = true } = item_of_interrupt s t h n k in
     let parcels : (item_at s t h).parcels ≡ 0 = ap (λ (j : Item). j.parcels) item in

@@ -15,7 +15,6 @@ use Rattle.ibx_decoder.specs.Instructions.{instruction_of}
 use Rattle.ibx_arch.specs.Step.{after_fetch, decoded, finished}
 use Rattle.ibx_isa.specs.Sources.{source1, source2}
 use Rattle.ibx_time.specs.Settings.{lines_in, settings_of}
-use Rattle.ibx_machine.specs.Core.{access_by, cause_of, is_real, ra_of, rb_of, read_by, row_of}
 use Rattle.ibx_joining.proofs.Stages.{view_phase}
 use Rattle.ibx_tying.proofs.Accesses.{IsNamed, named}
 use Rattle.ibx_tying.proofs.EndsInsn.{Case, Ended, Holds, Known, Meets, cause_ends, effect_now, now}
@@ -25,6 +24,7 @@ use Rattle.ibx_tying.proofs.EndsSimple.{RowEnds, alu_ends, alu_imm_ends, auipc_e
 use Rattle.ibx_tying.proofs.EndsSimple.{ecall_ends, fence_ends, illegal_ends, jal_ends, jalr_ends, lui_ends, wfi_ends}
 use Rattle.ibx_tying.proofs.EndsCsrs.{csr_ends, fencei_ends, mret_ends}
 use Rattle.ibx_arch.proofs.Aligned.{instruction_of-sound}
+use Rattle.ibx_core.specs.Sights.{access_by, cause_of, is_real, ra_of, rb_of, read_by, row_of, row_cause}
 
 -- ---- the sight of the case
 
@@ -84,6 +84,7 @@ holds_is : (m : Case) (word len : ℕ) (insn : Insn) (v : View) (regs : List ℕ
     → regs ≡ map (encode_of 32 7) m.h.state.regs → IsFetch m.h.state.pc (Instruction word len)
     → Fields m.h.state.pc (Instruction word len) m.core.id → ((view_phase (Some v) == 4) ≡ false → m.core.id.phase < 4)
     → instruction_of word ≡ Some insn → IsNamed insn → IsWellFormed insn → Holds m word len insn v
+unfolding ra_of rb_of
 holds_is m word len insn v regs k n er g f ph e nm wf =
     let row : row_of m.core.id ≡ Some insn = row_is m.h.state.pc word len m.core.id g f ∙ e in
     let real : is_real m.core.id ≡ true = real_by m.core.id.valid m.core.id.kind f.valid f.kind in
@@ -112,7 +113,7 @@ holds_is m word len insn v regs k n er g f ph e nm wf =
 
 -- a word that is no instruction is illegal, and a fault of the fetch is cause 1
 no_cause : (m : Case) → cause_of m.core.csrs 0 None ≡ Some 2
-unfolding cause_of
+unfolding cause_of row_cause
 no_cause m = refl
 
 -- a fetch that failed has cause 1, by its first parcel or its second

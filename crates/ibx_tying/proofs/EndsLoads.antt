@@ -25,8 +25,6 @@ use Rattle.ibx_arch.specs.Step.{Stepped, finished}
 use Rattle.ibx_time.specs.Settings.{settings_of}
 use Rattle.ibx_time.specs.Items.{Item, parcels_of, plain, retired_item}
 use Rattle.ibx_time.specs.Memories.{memory_at}
-use Rattle.ibx_machine.specs.Core.{access_or, effect_by, fails, portion_fails, retired_by, retires, stage_word, ticked}
-use Rattle.ibx_machine.specs.Core.{following as next_of}
 use Rattle.ibx_joining.proofs.Stages.{view_phase}
 use Rattle.ibx_joining.proofs.StageSide.{ending_by}
 use Rattle.ibx_tying.proofs.EndsInsn.{Case, Ended, Holds, Known, Meets, effect_now, is_trap, length_is, next_is}
@@ -36,6 +34,10 @@ use Rattle.ibx_tying.proofs.EndsPlain.{insn_step, next_even}
 use Rattle.ibx_tying.proofs.EndsSimple.{RowEnds}
 use Rattle.ibx_tying.proofs.EndsTraps.{fails_does, trap_good, trapped}
 use Rattle.ibx_memory.proofs.Lanes.{word_byte-bytes_number}
+use Rattle.ibx_core.specs.Effects.{access_or, effect_by, fails, portion_fails, ticked, following as next_of}
+use Rattle.ibx_core.specs.Sights.{stage_word, access_by}
+use Rattle.ibx_core.specs.Effects.{outcome_by, plain_outcome}
+use Rattle.ibx_tying.proofs.EndsRows.{retires_as}
 
 -- ---- the value of a load, from the words of its portions
 
@@ -149,7 +151,7 @@ portion_ended : (m : Case) (word cause tval : ℕ) (ops : Option (ℕ × ℕ)) (
     → memory ≡ memory_at (image_memory m.s.image) m.ws m.c → memory.ram ≡ m.s.image.ram
     → ((a : ℕ) → memory.byte a < 256) → tval < 2 ^ 32
     → Ended m (effect_now m) (trapped m.h.state m.c word ops memory cause tval w.addr)
-unfolding view_of
+unfolding view_of portion_fails fails
 portion_ended m word cause tval ops memory w second k t e ec et ew em er eb low =
     let p : Stepped = trapped m.h.state m.c word ops memory cause tval w.addr in
     let v : View = view_of p.event in
@@ -175,8 +177,8 @@ unfolding effect_by
 portion_ends m word cause tval ops memory w k t ea ec f low ew phase em er eb = by (tval == w.addr) refl
   where
     effect : (n : ℕ) → view_phase (Some (view_of (trapped m.h.state m.c word ops memory cause tval w.addr).event)) ≡ n
-        → effect_now m ≡ effect_by (ending_by n m.i.redirects) m.core m.g m.inn
-    effect n e = ap (λ u. effect_by u m.core m.g m.inn) (t.turn ∙ ap (λ x. ending_by x m.i.redirects) e)
+        → effect_now m ≡ effect_by (ending_by n m.i.redirects) m.core m.g m.inn.lines
+    effect n e = ap (λ u. effect_by u m.core m.g m.inn.lines) (t.turn ∙ ap (λ x. ending_by x m.i.redirects) e)
 
     other : (b : Bool) → (tval == w.addr) ≡ b → b ≡ false → (tval ≡ w.addr) ⊎ (tval ≡ portion_addr w.addr true)
         → portion_addr w.addr true ≡ tval
@@ -213,6 +215,7 @@ not_four false n e = ap (λ x. x == 4) e
 -- the stage sees this access
 load_seen : (m : Case) (word len rd rs1 imm : ℕ) (op : LoadOp) (v : View) → Holds m word len (Load op rd rs1 imm) v
     → (view_phase (Some v) == 4) ≡ false → m.g.access ≡ Some (load_access m op rs1 imm)
+unfolding access_by
 load_seen m word len rd rs1 imm op v hd n =
     hd.access ∙ ap (λ a. Some (record { addr = (a + imm) % 2 ^ 32; size = size_of op; store = false; value = 0 }))
     (hd.operands_are n).0
@@ -241,7 +244,7 @@ load_by : (m : Case) (word len rd rs1 imm : ℕ) (op : LoadOp) (o1 o2 : Option �
     → Ended m (effect_now m) (finished (now m).pc (now m).regs m.c word
     (Rattle.ibx_arch.specs.Step.operands (now m) (Load op rd rs1 imm))
     (load_with (now m) op rd (load_addr m rs1 imm) (following (now m) len) o1 o2))
-unfolding finished view_of retired_by retired_item
+unfolding finished view_of outcome_by plain_outcome retired_item
 load_by m word len rd rs1 imm op (Some at) o2 f1 f2 em gath k t hd =
     let v : View = view_of (trapped m.h.state m.c word
     (Rattle.ibx_arch.specs.Step.operands (now m) (Load op rd rs1 imm)) m.h.state.memory 5 at
@@ -272,10 +275,10 @@ load_by m word len rd rs1 imm op None None f1 f2 em gath k t hd =
     let item : m.i ≡ retired_item (settings_of m.s) m.h.times.ctl v (Some insn) (plain (parcels_of word)) =
     t.item ∙ row_item (settings_of m.s) m.h.times.ctl v word insn refl refl hd.insn_is in
     row_ends m word len rd value next insn (Some w) m.h.state.memory k t hd sees
-    (ap (λ o. retires m.core m.g m.i.redirects rd (gather_of op (access_or o).addr m.g.ls.first m.g.ls.second) None
-    (next_of m.core) (ticked m.core)) sees
-    ∙ ap (λ x. retires m.core m.g m.i.redirects rd x None (next_of m.core) (ticked m.core)) (gath refl)
-    ∙ ap (λ x. retires m.core m.g m.i.redirects rd value None x (ticked m.core))
+    (ap (λ o. retires_as m.core m.g m.i.redirects rd (gather_of op (access_or o).addr m.g.ls.first m.g.ls.second) None
+    (next_of m.core.id) (ticked m.core)) sees
+    ∙ ap (λ x. retires_as m.core m.g m.i.redirects rd x None (next_of m.core.id) (ticked m.core)) (gath refl)
+    ∙ ap (λ x. retires_as m.core m.g m.i.redirects rd value None x (ticked m.core))
     (next_is m word len k hd.word_is hd.len_is))
     (λ c. refl) refl
     (record {

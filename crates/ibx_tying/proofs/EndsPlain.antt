@@ -18,11 +18,13 @@ use Rattle.ibx_time.specs.Controls.{Ctl, ctl_retired}
 use Rattle.ibx_time.specs.Dummies.{seed_by}
 use Rattle.ibx_dummy.specs.declared.unit.Dummy.{Dummy}
 use Rattle.ibx_time.specs.Items.{Item, NoPortion, parcels_of, plain, retired_item}
-use Rattle.ibx_machine.specs.Core.{access_by, following as next_of, retired_by, retires, ticked}
 use Rattle.ibx_tying.proofs.EndsFrame.{IsGood}
 use Rattle.ibx_tying.proofs.EndsInsn.{Case, Ended, Holds, Known, Meets, effect_now, length_is, next_is, now}
 use Rattle.ibx_tying.proofs.EndsInsn.{retire_kind, retire_step, retire_word, row_ends, row_item}
 use Rattle.ibx_tying.proofs.EndsStage.{length_by}
+use Rattle.ibx_core.specs.Sights.{access_by}
+use Rattle.ibx_core.specs.Effects.{following as next_of, retires, ticked, outcome_by}
+use Rattle.ibx_tying.proofs.EndsRows.{retires_as}
 
 -- the step of an instruction in the state of the cycle
 abbrev pub insn_step : Case → ℕ → ℕ → ℕ → Insn → Stepped
@@ -55,8 +57,8 @@ low_reg ram x n g l = elim (cases_eq n 0) [
 pub plain_ends : (m : Case) (word len rd value next : ℕ) (insn : Insn) → IsPlainRow insn
     → Known m → Meets m (plain_step m word insn rd value next)
     → Holds m word len insn (view_of (plain_step m word insn rd value next).event)
-    → retired_by (Some insn) m.i.redirects m.core m.g m.inn
-    ≡ retires m.core m.g m.i.redirects rd value None next (ticked m.core)
+    → retires m.core m.g m.i.redirects (outcome_by (Some insn) m.core m.g m.inn.lines)
+    ≡ retires_as m.core m.g m.i.redirects rd value None next (ticked m.core)
     → (m.i.redirects ≡ false → next ≡ (m.h.state.pc + len) % 2 ^ 32)
     → value < 2 ^ 32 → next % 2 ≡ 0 → next < 2 ^ 32
     → Ended m (effect_now m) (plain_step m word insn rd value next)
@@ -91,14 +93,14 @@ next_even pc len word e k = even_by (is_long word) e
 pub follow_ends : (m : Case) (word len rd value seen : ℕ) (insn : Insn) → IsPlainRow insn
     → Known m → Meets m (plain_step m word insn rd value ((m.h.state.pc + len) % 2 ^ 32))
     → Holds m word len insn (view_of (plain_step m word insn rd value ((m.h.state.pc + len) % 2 ^ 32)).event)
-    → retired_by (Some insn) m.i.redirects m.core m.g m.inn
-    ≡ retires m.core m.g m.i.redirects rd seen None (next_of m.core) (ticked m.core)
+    → retires m.core m.g m.i.redirects (outcome_by (Some insn) m.core m.g m.inn.lines)
+    ≡ retires_as m.core m.g m.i.redirects rd seen None (next_of m.core.id) (ticked m.core)
     → seen ≡ value → value < 2 ^ 32
     → Ended m (effect_now m) (plain_step m word insn rd value ((m.h.state.pc + len) % 2 ^ 32))
 follow_ends m word len rd value seen insn r k t hd e ev lv =
     plain_ends m word len rd value ((m.h.state.pc + len) % 2 ^ 32) insn r k t hd
-    (e ∙ ap (λ x. retires m.core m.g m.i.redirects rd x None (next_of m.core) (ticked m.core)) ev
-    ∙ ap (λ x. retires m.core m.g m.i.redirects rd value None x (ticked m.core))
+    (e ∙ ap (λ x. retires_as m.core m.g m.i.redirects rd x None (next_of m.core.id) (ticked m.core)) ev
+    ∙ ap (λ x. retires_as m.core m.g m.i.redirects rd value None x (ticked m.core))
     (next_is m word len k hd.word_is hd.len_is))
     (λ _. refl) lv (next_even m.h.state.pc len word hd.len_is k.good.pc_even)
     (mod_below (m.h.state.pc + len) (2 ^ 32) (omega arith))

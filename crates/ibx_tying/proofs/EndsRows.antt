@@ -22,13 +22,33 @@ use Rattle.ibx_time.specs.Dummies.{dummies_after}
 use Rattle.ibx_dummy.specs.declared.unit.Dummy.{Dummy}
 use Rattle.ibx_time.specs.Items.{Item}
 use Rattle.ibx_time.specs.Times.{target_if}
-use Rattle.ibx_machine.specs.Core.{Core, Sight, is_fixed, retires, stage_word}
 use Rattle.ibx_joining.proofs.Ties.{IsValues}
 use Rattle.ibx_tying.proofs.EndsFrame.{Does, IsGood, with_write}
+use Rattle.ibx_core.specs.declared.state.State.{State as Core}
+use Rattle.ibx_core.specs.declared.sight.Sight.{Sight}
+use Rattle.ibx_core.specs.Sights.{is_fixed, stage_word}
+use Rattle.ibx_core.specs.Effects.{retires, Effect}
 
 -- the operands that the stage sees, unless timing is fixed
 abbrev pub ops_in : Core → Sight → Option (ℕ × ℕ)
 ops_in x g = if is_fixed x.csrs then None else Some (g.a, g.b)
+
+-- what an instruction leaves that retires, by all that it comes to
+abbrev pub retires_to : Core → Sight → Bool → ℕ → ℕ → Option ℕ → ℕ → Csrs → Dummy → Bool → Effect
+retires_to x g r rd value ctl next csrs dummies fence =
+    retires x g r (record {
+      rd = rd;
+      value = value;
+      ctl = ctl;
+      next_pc = next;
+      csrs = csrs;
+      dummies = dummies;
+      fence = fence;
+    })
+
+-- and by what most rows come to: the dummies stay, and it is no FENCE.I
+abbrev pub retires_as : Core → Sight → Bool → ℕ → ℕ → Option ℕ → ℕ → Csrs → Effect
+retires_as x g r rd value ctl next csrs = retires_to x g r rd value ctl next csrs x.dummies false
 
 -- the step of an instruction that retires, in a state at a cycle
 abbrev pub retired : State → ℕ → ℕ → Option (ℕ × ℕ) → Memory → CsrValues → ℕ → ℕ → Option Access → Option ℕ → ℕ
@@ -75,9 +95,9 @@ pub retires_does : (x : State) (c word rd value next : ℕ) (mem : Option Access
     → Stands x c word mem ops d core g → values left ≡ csrs → Complemented left
     → r ≡ i.redirects → i.fences ≡ false → d ≡ dummies_after d v → ctl_after ctl v ≡ ctl_of csrs
     → (i.redirects ≡ false → next ≡ (x.pc + 2 * i.parcels) % 2 ^ 32)
-    → Does c x.pc x.regs ctl d i v (retires core g r rd value ctlw next left)
+    → Does c x.pc x.regs ctl d i v (retires_as core g r rd value ctlw next left)
     (retired x c word ops memory csrs rd value mem ctlw next)
-unfolding made
+unfolding made retires
 retires_does x c word rd value next mem ctlw ops memory csrs left core g ctl d i v r t es ec er ef ed ek follows =
     record {
       happens = made_is c rd value ctlw core.id.pc x.pc (stage_word core.id) word g.access mem (ops_in core g) ops t.pc
@@ -141,9 +161,9 @@ pub any_does : (x : State) (c word rd value next : ℕ) (mem : Option Access) (c
     → Stands x c word mem ops d core g → values left ≡ csrs → Complemented left
     → r ≡ i.redirects → ff ≡ i.fences → dd ≡ dummies_after d v → ctl_after ctl v ≡ ctl_of csrs
     → (i.redirects ≡ false → next ≡ (x.pc + 2 * i.parcels) % 2 ^ 32)
-    → Does c x.pc x.regs ctl d i v (record (retires core g r rd value ctlw next left) { dummies = dd; fence = ff })
+    → Does c x.pc x.regs ctl d i v (retires_to core g r rd value ctlw next left dd ff)
     (retired x c word ops memory csrs rd value mem ctlw next)
-unfolding made
+unfolding made retires
 any_does x c word rd value next mem ctlw ops memory csrs left dd ff core g ctl d i v r t es ec er ef ed ek follows =
     record {
       happens = made_is c rd value ctlw core.id.pc x.pc (stage_word core.id) word g.access mem (ops_in core g) ops t.pc

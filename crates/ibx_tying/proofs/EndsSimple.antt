@@ -23,12 +23,15 @@ use Rattle.ibx_isa.specs.Sources.{source1, source2}
 use Rattle.ibx_time.specs.Settings.{settings_of}
 use Rattle.ibx_time.specs.Controls.{Ctl, is_fixed}
 use Rattle.ibx_time.specs.Items.{Item, branching, is_turned, parcels_of, plain, retired_item}
-use Rattle.ibx_machine.specs.Core.{Core, cause_of, retired_by, retires, stage_word, ticked}
 use Rattle.ibx_tying.proofs.EndsInsn.{Case, Ended, Holds, Known, Meets, cause_ends, effect_now, next_is, tval_of}
 use Rattle.ibx_tying.proofs.EndsInsn.{no_trap_phase, now, retire_kind, retire_word, row_item}
 use Rattle.ibx_tying.proofs.EndsLow.{alu_low}
 use Rattle.ibx_tying.proofs.EndsPlain.{IsPlainRow, follow_ends, insn_step, next_even, low_reg, plain_ends, plain_step}
 use Rattle.ibx_csr.specs.Modes.{may_wait}
+use Rattle.ibx_core.specs.declared.state.State.{State as Core}
+use Rattle.ibx_core.specs.Sights.{cause_of, stage_word, access_by, row_cause}
+use Rattle.ibx_core.specs.Effects.{ticked, outcome_by, plain_outcome}
+use Rattle.ibx_tying.proofs.EndsRows.{retires_as}
 
 -- what is shown of an instruction
 abbrev pub RowEnds : Case → ℕ → ℕ → ℕ → Insn → Type 0
@@ -39,7 +42,7 @@ RowEnds m word len lines insn =
 
 -- each of these rows is plain
 lui_row : (rd imm : ℕ) → IsPlainRow (Lui rd imm)
-unfolding retired_item
+unfolding retired_item access_by
 lui_row rd imm = record {
   none = λ a b. refl;
   ctl = λ c. refl;
@@ -51,7 +54,7 @@ lui_row rd imm = record {
 
 -- AUIPC makes no access, and leaves the registers that time depends on
 auipc_row : (rd imm : ℕ) → IsPlainRow (Auipc rd imm)
-unfolding retired_item
+unfolding retired_item access_by
 auipc_row rd imm = record {
   none = λ a b. refl;
   ctl = λ c. refl;
@@ -63,7 +66,7 @@ auipc_row rd imm = record {
 
 -- JAL is plain, with an item that only redirects
 jal_row : (rd imm : ℕ) → IsPlainRow (Jal rd imm)
-unfolding retired_item
+unfolding retired_item access_by
 jal_row rd imm = record {
   none = λ a b. refl;
   ctl = λ c. refl;
@@ -75,7 +78,7 @@ jal_row rd imm = record {
 
 -- JALR is as plain as JAL, though its target comes from a register
 jalr_row : (rd rs1 imm : ℕ) → IsPlainRow (Jalr rd rs1 imm)
-unfolding retired_item
+unfolding retired_item access_by
 jalr_row rd rs1 imm = record {
   none = λ a b. refl;
   ctl = λ c. refl;
@@ -87,7 +90,7 @@ jalr_row rd rs1 imm = record {
 
 -- each computation with an immediate is plain
 alu_imm_row : (op : AluOp) (rd rs1 imm : ℕ) → IsPlainRow (AluImm op rd rs1 imm)
-unfolding retired_item
+unfolding retired_item access_by
 alu_imm_row op rd rs1 imm = record {
   none = λ a b. refl;
   ctl = λ c. refl;
@@ -99,7 +102,7 @@ alu_imm_row op rd rs1 imm = record {
 
 -- each computation on two registers is plain
 alu_row : (op : AluOp) (rd rs1 rs2 : ℕ) → IsPlainRow (Alu op rd rs1 rs2)
-unfolding retired_item
+unfolding retired_item access_by
 alu_row op rd rs1 rs2 = record {
   none = λ a b. refl;
   ctl = λ c. refl;
@@ -111,7 +114,7 @@ alu_row op rd rs1 rs2 = record {
 
 -- each multiplication or division is plain: its item may only cost more
 md_row : (op : MdOp) (rd rs1 rs2 : ℕ) → IsPlainRow (MulDiv op rd rs1 rs2)
-unfolding retired_item
+unfolding retired_item access_by
 md_row op rd rs1 rs2 = record {
   none = λ a b. refl;
   ctl = λ c. refl;
@@ -123,7 +126,7 @@ md_row op rd rs1 rs2 = record {
 
 -- FENCE is plain: only FENCE.I fences
 fence_row : IsPlainRow Fence
-unfolding retired_item
+unfolding retired_item access_by
 fence_row = record {
   none = λ a b. refl;
   ctl = λ c. refl;
@@ -135,7 +138,7 @@ fence_row = record {
 
 -- WFI is plain, with an item that only sleeps
 wfi_row : IsPlainRow Wfi
-unfolding retired_item
+unfolding retired_item access_by
 wfi_row = record {
   none = λ a b. refl;
   ctl = λ c. refl;
@@ -153,7 +156,7 @@ branch_by false i = (refl, refl, refl)
 
 -- a branch is plain, though it may cost a cycle more and redirect
 branch_row : (op : BranchOp) (rs1 rs2 imm : ℕ) → IsPlainRow (Branch op rs1 rs2 imm)
-unfolding retired_item
+unfolding retired_item access_by
 branch_row op rs1 rs2 imm = record {
   none = λ a b. refl;
   ctl = λ c. refl;
@@ -173,13 +176,13 @@ ops_of m word len rd value next insn hd =
 
 -- each ends as its step: LUI, AUIPC and the integer computations
 pub lui_ends : (m : Case) (word len lines rd imm : ℕ) → RowEnds m word len lines (Lui rd imm)
-unfolding execute finished retired_by
+unfolding execute finished outcome_by plain_outcome
 lui_ends m word len lines rd imm k t hd =
     follow_ends m word len rd imm imm (Lui rd imm) (lui_row rd imm) k t hd refl refl hd.well.1
 
 -- AUIPC ends as its step, with the sum of program counter and immediate
 pub auipc_ends : (m : Case) (word len lines rd imm : ℕ) → RowEnds m word len lines (Auipc rd imm)
-unfolding execute finished retired_by
+unfolding execute finished outcome_by plain_outcome
 auipc_ends m word len lines rd imm k t hd =
     follow_ends m word len rd ((m.h.state.pc + imm) % 2 ^ 32) ((m.core.id.pc + imm) % 2 ^ 32) (Auipc rd imm)
     (auipc_row rd imm) k t hd refl
@@ -188,7 +191,7 @@ auipc_ends m word len lines rd imm k t hd =
 -- a computation with an immediate ends as its step, since the stage reads the state's register
 pub alu_imm_ends : (m : Case) (word len lines rd rs1 imm : ℕ) (op : AluOp)
     → RowEnds m word len lines (AluImm op rd rs1 imm)
-unfolding execute finished retired_by
+unfolding execute finished outcome_by plain_outcome
 alu_imm_ends m word len lines rd rs1 imm op k t hd =
     let next : ℕ = (m.h.state.pc + len) % 2 ^ 32 in
     let ops = ops_of m word len rd (alu_of op (reg m.h.state rs1) imm) next (AluImm op rd rs1 imm) hd in
@@ -199,7 +202,7 @@ alu_imm_ends m word len lines rd rs1 imm op k t hd =
 
 -- so does a computation on two registers
 pub alu_ends : (m : Case) (word len lines rd rs1 rs2 : ℕ) (op : AluOp) → RowEnds m word len lines (Alu op rd rs1 rs2)
-unfolding execute finished retired_by
+unfolding execute finished outcome_by plain_outcome
 alu_ends m word len lines rd rs1 rs2 op k t hd =
     let next : ℕ = (m.h.state.pc + len) % 2 ^ 32 in
     let ops = ops_of m word len rd (alu_of op (reg m.h.state rs1) (reg m.h.state rs2)) next (Alu op rd rs1 rs2) hd in
@@ -213,14 +216,14 @@ alu_ends m word len lines rd rs1 rs2 op k t hd =
 pub md_ends : (m : Case) (word len lines rd rs1 rs2 : ℕ) (op : MdOp)
     → result_of m.g.md ≡ md_value op (reg m.h.state rs1) (reg m.h.state rs2)
     → md_value op (reg m.h.state rs1) (reg m.h.state rs2) < 2 ^ 32 → RowEnds m word len lines (MulDiv op rd rs1 rs2)
-unfolding execute finished retired_by
+unfolding execute finished outcome_by plain_outcome
 md_ends m word len lines rd rs1 rs2 op e l k t hd =
     follow_ends m word len rd (md_value op (reg m.h.state rs1) (reg m.h.state rs2)) (result_of m.g.md)
     (MulDiv op rd rs1 rs2) (md_row op rd rs1 rs2) k t hd refl e l
 
 -- FENCE ends as its step
 pub fence_ends : (m : Case) (word len lines : ℕ) → RowEnds m word len lines Fence
-unfolding execute finished retired_by
+unfolding execute finished outcome_by plain_outcome
 fence_ends m word len lines k t hd = follow_ends m word len 0 0 0 Fence fence_row k t hd refl refl (omega arith)
 
 -- ---- jumps
@@ -234,7 +237,7 @@ apart e = absurd (no e)
 
 -- JAL and JALR end as their steps
 pub jal_ends : (m : Case) (word len lines rd imm : ℕ) → RowEnds m word len lines (Jal rd imm)
-unfolding execute finished retired_by retired_item
+unfolding execute finished outcome_by plain_outcome retired_item
 jal_ends m word len lines rd imm k t hd =
     let link : ℕ = (m.h.state.pc + len) % 2 ^ 32 in
     let next : ℕ = (m.h.state.pc + imm) % 2 ^ 32 in
@@ -245,9 +248,9 @@ jal_ends m word len lines rd imm k t hd =
     (retire_kind m word (Jal rd imm) m.h.state.memory csrs rd link None None next)
     (retire_word m word (Jal rd imm) m.h.state.memory csrs rd link None None next) hd.insn_is in
     plain_ends m word len rd link next (Jal rd imm) (jal_row rd imm) k t hd
-    (ap (λ x. retires m.core m.g m.i.redirects rd x None ((m.core.id.pc + imm) % 2 ^ 32) (ticked m.core))
+    (ap (λ x. retires_as m.core m.g m.i.redirects rd x None ((m.core.id.pc + imm) % 2 ^ 32) (ticked m.core))
     (next_is m word len k hd.word_is hd.len_is)
-    ∙ ap (λ pc. retires m.core m.g m.i.redirects rd link None ((pc + imm) % 2 ^ 32) (ticked m.core)) k.pc)
+    ∙ ap (λ pc. retires_as m.core m.g m.i.redirects rd link None ((pc + imm) % 2 ^ 32) (ticked m.core)) k.pc)
     (λ q. apart (sym (ap (λ (j : Item). j.redirects) item) ∙ q))
     (mod_below (m.h.state.pc + len) (2 ^ 32) (omega arith))
     (let pe = k.good.pc_even in let ie : imm % 2 ≡ 0 = hd.well.2 in omega (arith, pe, ie))
@@ -255,7 +258,7 @@ jal_ends m word len lines rd imm k t hd =
 
 -- JALR ends as its step: its target has bit 0 cleared, so it is even
 pub jalr_ends : (m : Case) (word len lines rd rs1 imm : ℕ) → RowEnds m word len lines (Jalr rd rs1 imm)
-unfolding execute finished retired_by retired_item
+unfolding execute finished outcome_by plain_outcome retired_item
 jalr_ends m word len lines rd rs1 imm k t hd =
     let link : ℕ = (m.h.state.pc + len) % 2 ^ 32 in
     let next : ℕ = (reg m.h.state rs1 + imm) % 2 ^ 32 / 2 * 2 in
@@ -268,9 +271,9 @@ jalr_ends m word len lines rd rs1 imm k t hd =
     (retire_kind m word (Jalr rd rs1 imm) m.h.state.memory csrs rd link None None next)
     (retire_word m word (Jalr rd rs1 imm) m.h.state.memory csrs rd link None None next) hd.insn_is in
     plain_ends m word len rd link next (Jalr rd rs1 imm) (jalr_row rd rs1 imm) k t hd
-    (ap (λ x. retires m.core m.g m.i.redirects rd x None ((m.g.a + imm) % 2 ^ 32 / 2 * 2) (ticked m.core))
+    (ap (λ x. retires_as m.core m.g m.i.redirects rd x None ((m.g.a + imm) % 2 ^ 32 / 2 * 2) (ticked m.core))
     (next_is m word len k hd.word_is hd.len_is)
-    ∙ ap (λ a. retires m.core m.g m.i.redirects rd link None ((a + imm) % 2 ^ 32 / 2 * 2) (ticked m.core)) ops.0)
+    ∙ ap (λ a. retires_as m.core m.g m.i.redirects rd link None ((a + imm) % 2 ^ 32 / 2 * 2) (ticked m.core)) ops.0)
     (λ q. apart (sym (ap (λ (j : Item). j.redirects) item) ∙ q))
     (mod_below (m.h.state.pc + len) (2 ^ 32) (omega arith)) (twice_even ((reg m.h.state rs1 + imm) % 2 ^ 32 / 2))
     (half_low (reg m.h.state rs1 + imm))
@@ -323,7 +326,7 @@ free_operands m insn = refl
 -- so a branch ends as its step
 pub branch_ends : (m : Case) (word len lines rs1 rs2 imm : ℕ) (op : BranchOp)
     → RowEnds m word len lines (Branch op rs1 rs2 imm)
-unfolding execute finished retired_by retired_item
+unfolding execute finished outcome_by plain_outcome retired_item
 branch_ends m word len lines rs1 rs2 imm op k t hd =
     let a : ℕ = reg m.h.state rs1 in
     let b : ℕ = reg m.h.state rs2 in
@@ -344,12 +347,12 @@ branch_ends m word len lines rs1 rs2 imm op k t hd =
     let fixed : is_fixed m.h.times.ctl ≡ not (bit_and m.h.state.csrs.cpuctrl 2 == 0) =
     ap (λ (y : Ctl). is_fixed y) k.ctl in
     plain_ends m word len 0 0 next insn (branch_row op rs1 rs2 imm) k t hd
-    (ap (λ x. retires m.core m.g m.i.redirects 0 0 None
+    (ap (λ x. retires_as m.core m.g m.i.redirects 0 0 None
     (if branch_of op m.g.a m.g.b then (m.core.id.pc + imm) % 2 ^ 32 else x) (ticked m.core))
     (next_is m word len k hd.word_is hd.len_is)
-    ∙ ap (λ pc. retires m.core m.g m.i.redirects 0 0 None
+    ∙ ap (λ pc. retires_as m.core m.g m.i.redirects 0 0 None
     (if branch_of op m.g.a m.g.b then (pc + imm) % 2 ^ 32 else link) (ticked m.core)) k.pc
-    ∙ ap₂ (λ x y. retires m.core m.g m.i.redirects 0 0 None
+    ∙ ap₂ (λ x y. retires_as m.core m.g m.i.redirects 0 0 None
     (if branch_of op x y then (m.h.state.pc + imm) % 2 ^ 32 else link) (ticked m.core)) ops.0 ops.1)
     (λ q. ap (λ z. if z then (m.h.state.pc + imm) % 2 ^ 32 else link)
     (turned_item (is_fixed m.h.times.ctl) op a b (parcels_of word) (bit_and m.h.state.csrs.cpuctrl 2 == 0) fixed
@@ -377,7 +380,7 @@ call_word cause word stage e k = rw e k
 
 -- ECALL has its mode's cause
 call_is : (m : Case) → Known m → cause_of m.core.csrs 0 (Some Ecall) ≡ Some (if (now m).csrs.machine then 11 else 8)
-unfolding cause_of values
+unfolding cause_of values row_cause
 call_is m k = ap (λ (w : CsrValues). Some (call_of w.machine)) k.csrs
   where
     call_of : Bool → ℕ
@@ -395,7 +398,7 @@ ecall_ends m word len lines k t hd =
 
 -- EBREAK has cause 3, and ends as its step
 break_is : (m : Case) → cause_of m.core.csrs 0 (Some Ebreak) ≡ Some 3
-unfolding cause_of
+unfolding cause_of row_cause
 break_is m = refl
 
 -- EBREAK ends as its step, with mtval 0
@@ -414,7 +417,7 @@ illegal_ends m word ops k t ec ew l = cause_ends m word 2 word ops k t refl ec e
 
 -- a WFI that isn't allowed is illegal
 wait_cause : (m : Case) → Known m → may_wait (now m).csrs ≡ false → cause_of m.core.csrs 0 (Some Wfi) ≡ Some 2
-unfolding cause_of values
+unfolding cause_of values row_cause
 wait_cause m k e = ap (λ (w : CsrValues). wait_of (w.machine || bit_and w.mstatus 0x200000 == 0)) k.csrs ∙ ap wait_of e
   where
     wait_of : Bool → Option ℕ
@@ -428,7 +431,7 @@ wait_step m word len b = finished (now m).pc (now m).regs m.c word (operands (no
 -- it ends as this step
 wait_by : (m : Case) (word len : ℕ) (b : Bool) → may_wait (now m).csrs ≡ b → Known m → Meets m (wait_step m word len b)
     → Holds m word len Wfi (view_of (wait_step m word len b).event) → Ended m (effect_now m) (wait_step m word len b)
-unfolding finished retired_by
+unfolding finished outcome_by plain_outcome
 wait_by m word len true e k t hd = follow_ends m word len 0 0 0 Wfi wfi_row k t hd refl refl (omega arith)
 wait_by m word len false e k t hd =
     illegal_ends m word (operands (now m) Wfi) k t (hd.cause ∙ wait_cause m k e) hd.fetched hd.word_low

@@ -24,7 +24,6 @@ use Rattle.ibx_arch.specs.Step.{operands}
 use Rattle.ibx_isa.specs.Sources.{source1, source2}
 use Rattle.ibx_time.specs.Settings.{Setup}
 use Rattle.ibx_time.specs.Memories.{Write, memory_at}
-use Rattle.ibx_machine.specs.Core.{Core, Sight, row_of, stage_word}
 use Rattle.ibx_id.specs.declared.stage.IdState.{IdState}
 use Rattle.ibx_joining.proofs.Stages.{fault_of}
 use Rattle.ibx_joining.proofs.Ties.{IsPlaced}
@@ -32,6 +31,9 @@ use Rattle.ibx_joining.proofs.ArchSide.{fetched_word}
 use Rattle.ibx_joining.proofs.Opens.{byte_low}
 use Rattle.ibx_tying.proofs.Fetches.{fetch_by, long_word, next_apart}
 use Rattle.ibx_tying.proofs.EndsRows.{ops_in}
+use Rattle.ibx_core.specs.declared.state.State.{State as Core}
+use Rattle.ibx_core.specs.declared.sight.Sight.{Sight}
+use Rattle.ibx_core.specs.Sights.{row_of, stage_word}
 
 -- ---- bytes
 
@@ -160,6 +162,7 @@ stage_word_is pc word len id g f = ap in_stage f.word ∙ g.1
 -- the stage decodes what was fetched, so its row is that instruction, or none
 pub row_is : (pc word len : ℕ) (id : IdState) → IsFetch pc (Instruction word len) → Fields pc (Instruction word len) id
     → row_of id ≡ instruction_of word
+unfolding row_of
 row_is pc word len id g f =
     row_if id.valid (nat_lt id.kind 2) (id.fault == 0) (instruction_of (stage_word id)) f.valid
     (kind_low id.kind f.kind) true (ap (λ n. n == 0) f.fault)
@@ -167,6 +170,7 @@ row_is pc word len id g f =
 
 -- after a fetch that failed the stage has no row
 pub no_row : (pc addr : ℕ) (id : IdState) → IsFetch pc (Unsound addr) → Fields pc (Unsound addr) id → row_of id ≡ None
+unfolding row_of
 no_row pc addr id g f =
     row_if id.valid (nat_lt id.kind 2) (id.fault == 0) (instruction_of (stage_word id)) f.valid
     (kind_low id.kind f.kind) false (ap (λ n. n == 0) f.fault ∙ g.1)

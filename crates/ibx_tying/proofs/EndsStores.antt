@@ -21,7 +21,6 @@ use Rattle.ibx_time.specs.Items.{Item, NoPortion, Portions, parcels_of, portions
 use Rattle.ibx_time.specs.Items.{retired_item}
 use Rattle.ibx_time.specs.Memories.{Write, memory_at, write_of, writes_with, written_by}
 use Rattle.ibx_time.specs.History.{Story, access_at, item_at, taken}
-use Rattle.ibx_machine.specs.Core.{retires, ticked, retired_by}
 use Rattle.ibx_joining.proofs.Fetches.{is_unmapped}
 use Rattle.ibx_joining.proofs.Stages.{view_phase}
 use Rattle.ibx_joining.proofs.Ties.{IsBefore}
@@ -31,6 +30,9 @@ use Rattle.ibx_tying.proofs.EndsLoads.{FailsAt, at_by, error_place, portion_ends
 use Rattle.ibx_tying.proofs.EndsPlain.{next_even}
 use Rattle.ibx_tying.proofs.EndsSimple.{RowEnds}
 use Rattle.ibx_tying.proofs.EndsTraps.{trapped}
+use Rattle.ibx_core.specs.Effects.{ticked, outcome_by, plain_outcome}
+use Rattle.ibx_tying.proofs.EndsRows.{retires_as}
+use Rattle.ibx_core.specs.Sights.{access_by}
 
 -- ---- memory by the writes of a store
 
@@ -236,6 +238,7 @@ not_four false n e = ap (λ x. x == 4) e
 -- the stage sees this access
 store_seen : (m : Case) (word len size rs1 rs2 imm : ℕ) (v : View) → Holds m word len (Store size rs1 rs2 imm) v
     → (view_phase (Some v) == 4) ≡ false → m.g.access ≡ Some (store_access m size rs1 rs2 imm)
+unfolding access_by
 store_seen m word len size rs1 rs2 imm v hd n =
     let o = hd.operands_are n in
     hd.access ∙ ap₂ (λ a b. Some (record {
@@ -270,7 +273,7 @@ store_by : (m : Case) (word len size rs1 rs2 imm : ℕ) (o1 o2 : Option ℕ)
     → Meets m (store_step m word len size rs1 rs2 imm o1 o2)
     → Holds m word len (Store size rs1 rs2 imm) (view_of (store_step m word len size rs1 rs2 imm o1 o2).event)
     → Ended m (effect_now m) (store_step m word len size rs1 rs2 imm o1 o2)
-unfolding finished view_of retired_by retired_item
+unfolding finished view_of outcome_by plain_outcome retired_item
 store_by m word len size rs1 rs2 imm (Some at) o2 l e1 e2 k t hd =
     let addr : ℕ = store_addr m rs1 imm in
     let ops : Option (ℕ × ℕ) = operands (now m) (Store size rs1 rs2 imm) in
@@ -309,7 +312,7 @@ store_by m word len size rs1 rs2 imm None None l e1 e2 k t hd =
     l.allowed e1 (ap (λ (j : Item). j.portions) item) in
     row_ends m word len 0 0 next insn (Some w) memory k t hd
     (store_seen m word len size rs1 rs2 imm v hd (no_trap_phase v refl))
-    (ap (λ x. retires m.core m.g m.i.redirects 0 0 None x (ticked m.core)) (next_is m word len k hd.word_is hd.len_is))
+    (ap (λ x. retires_as m.core m.g m.i.redirects 0 0 None x (ticked m.core)) (next_is m word len k hd.word_is hd.len_is))
     (λ c. refl) refl
     (record {
       fences = ap (λ (j : Item). j.fences) item;

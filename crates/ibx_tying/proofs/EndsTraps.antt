@@ -16,11 +16,13 @@ use Rattle.ibx_time.specs.Dummies.{dummies_after}
 use Rattle.ibx_dummy.specs.declared.unit.Dummy.{Dummy}
 use Rattle.ibx_time.specs.Items.{Item}
 use Rattle.ibx_time.specs.Times.{target_if}
-use Rattle.ibx_machine.specs.Core.{Core, fails, stage_word}
 use Rattle.ibx_joining.proofs.Rests.{tick_is}
 use Rattle.ibx_tying.proofs.EndsFrame.{Does, IsGood}
 use Rattle.ibx_tying.proofs.EndsIrq.{ctl_trap, regs_are, regs_complement, ticked_complement}
 use Rattle.ibx_tying.proofs.EndsValues.{enter_even, enter_low, later_values, tick_values, trap_values}
+use Rattle.ibx_core.specs.declared.state.State.{State as Core}
+use Rattle.ibx_core.specs.Effects.{fails, rests}
+use Rattle.ibx_core.specs.Sights.{stage_word}
 
 -- the step of a trap, in a state at a cycle, with the memory that it leaves
 abbrev pub trapped : State → ℕ → ℕ → Option (ℕ × ℕ) → Memory → ℕ → ℕ → ℕ → Stepped
@@ -69,6 +71,7 @@ pub fails_does : (x : State) (c cause tval addr word : ℕ) (ops : Option (ℕ �
     → values core.csrs ≡ (at_cycle x c).csrs → core.id.pc ≡ x.pc → Complemented core.csrs → core.dummies ≡ d
     → ctl ≡ ctl_of x.csrs → (if cause == 1 then 0 else stage_word core.id) ≡ word → IsTrap i v
     → Does c x.pc x.regs ctl d i v (fails core cause tval addr) (trapped x c word ops memory cause tval addr)
+unfolding fails rests
 fails_does x c cause tval addr word ops memory core ctl d i v ev ep ec ed ek ew it =
     let now : CsrValues = (at_cycle x c).csrs in
     let target : enter_target (trap_regs (values core.csrs)) cause false

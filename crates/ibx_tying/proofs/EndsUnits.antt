@@ -26,7 +26,6 @@ use Rattle.ibx_time.specs.Memories.{Write, access_of, memory_at, write_of, write
 use Rattle.ibx_time.specs.Times.{ADummy, AnInstruction, AnInterrupt}
 use Rattle.ibx_time.specs.History.{Story, access_at, access_by as access_from, choice_by, item_at, kind_of, taken}
 use Rattle.ibx_time.specs.History.{view_with}
-use Rattle.ibx_machine.specs.Core.{access_by, is_real, row_of}
 use Rattle.ibx_machine.specs.System.{System}
 use Rattle.ibx_joining.proofs.ArchSide.{ArchEnds, eyes_in, fetched_word}
 use Rattle.ibx_joining.proofs.Dones.{ls_is, md_is}
@@ -48,6 +47,7 @@ use Rattle.ibx_tying.proofs.EndsSimple.{RowEnds, md_ends}
 use Rattle.ibx_tying.proofs.EndsStage.{row_is}
 use Rattle.ibx_tying.proofs.EndsStores.{refused_memory, store_access, store_addr, store_ends, stored_memory}
 use Rattle.ibx_tying.proofs.Sees.{arch_sees}
+use Rattle.ibx_core.specs.Sights.{access_by, is_real, row_of}
 
 -- ---- the portions of an access that doesn't trap
 
@@ -70,10 +70,12 @@ record IsAccessRow (insn : Insn) : Type 0 where
 
 -- loads and stores are such rows
 load_row : (op : LoadOp) (rd rs1 imm : ℕ) → IsAccessRow (Load op rd rs1 imm)
+unfolding access_by
 load_row op rd rs1 imm = record { no_wfi = λ e. cc; sees = λ a b e. cc }
 
 -- a store is no WFI, and makes an access with any operands
 store_row : (size rs1 rs2 imm : ℕ) → IsAccessRow (Store size rs1 rs2 imm)
+unfolding access_by
 store_row size rs1 rs2 imm = record { no_wfi = λ e. cc; sees = λ a b e. cc }
 
 -- without a trap such an item reaches its portions

@@ -12,11 +12,11 @@ use Rattle.ibx_csr.proofs.Sound.{glitch-sound}
 use Rattle.ibx_csr.specs.declared.csrs.Csrs.{Csrs}
 use Rattle.ibx_isa.specs.Sources.{source1, source2}
 use Rattle.ibx_decoder.specs.Instructions.{instruction_of}
-use Rattle.ibx_machine.specs.Core.{ra_of, rb_of, read_by, row_of, stage_word}
 use Rattle.ibx_id.specs.declared.stage.IdState.{IdState}
 use Rattle.ibx_time.specs.Settings.{Setup}
 use Rattle.ibx_joining.proofs.ArchSide.{ArchQuiet}
 use Rattle.ibx_tying.proofs.Accesses.{IsNamed, named}
+use Rattle.ibx_core.specs.Sights.{ra_of, rb_of, read_by, row_of, stage_word}
 
 -- ---- the registers that are read
 
@@ -27,6 +27,7 @@ named_if false o n = tt
 
 -- a row in the stage was decoded from its word, so its sources are registers
 pub named_row : (id : IdState) → IfSome (row_of id) IsNamed
+unfolding row_of
 named_row id =
     named_if (id.valid && nat_lt id.kind 2 && id.fault == 0) (instruction_of (stage_word id)) (named (stage_word id))
 
@@ -64,6 +65,7 @@ no_glitch c k = (glitch-sound c).1 k
 
 -- so neither register that is read has a flipped bit
 pub arch_quiet : (s : Setup) → ArchQuiet s
+unfolding ra_of rb_of
 arch_quiet s h c next_pc id csrs regs t i = (
   coded_in regs h.state.regs (ra_of id) t.regs_are (read1_low (nat_lt id.phase 4) (row_of id) (named_row id))
       i.regs_count i.regs_low,

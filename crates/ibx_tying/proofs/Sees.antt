@@ -36,7 +36,6 @@ use Rattle.ibx_time.specs.Streams.{past}
 use Rattle.ibx_time.specs.Times.{ADummy, AnInstruction, AnInterrupt, Kind}
 use Rattle.ibx_time.specs.History.{Story, access_at, access_by as access_from, brought_parcels, choice_at, choice_by}
 use Rattle.ibx_time.specs.History.{item_at, item_by, kind_of, view_with}
-use Rattle.ibx_machine.specs.Core.{cause_of, cost_by, is_fixed, is_real, ra_of, rb_of, read_by, row_of, stage_word}
 use Rattle.ibx_joining.proofs.ArchSide.{ArchSees, eyes_at, eyes_in, fetched_word}
 use Rattle.ibx_joining.proofs.Quiets.{image_low, memory_low}
 use Rattle.ibx_joining.proofs.Stages.{ItemAt, PhaseAt, fault_by, fault_of, fetched, found, fresh, later, portion_phase}
@@ -55,6 +54,8 @@ use Rattle.ibx_tying.proofs.SeesRows.{state_there, traps_with, view_done, wfi_wa
 use Rattle.ibx_tying.proofs.SeesStage.{Fields, IsHeld, held_good, in_stage, no_row, operand, parcel_low, row_is}
 use Rattle.ibx_id.specs.declared.stage.IdState.{IdState}
 use Rattle.ibx_id.specs.Turns.{is_some_cause}
+use Rattle.ibx_core.specs.Sights.{cause_of, cost_by, is_fixed, is_real, ra_of, rb_of, read_by, row_of, stage_word}
+use Rattle.ibx_core.specs.Sights.{row_cause, access_by, refused_by}
 
 -- ---- the phase of the stage
 
@@ -102,6 +103,7 @@ operands_are : (s : Setup) (limit t : ℕ) (h : Story) (c next_pc : ℕ) (id : I
     → row_of id ≡ Some insn → trap_phase s t h ≢ 4
     → (payload_of 32 (slice_index regs (ra_of id)) ≡ reg h.state (source1 insn))
     × (payload_of 32 (slice_index regs (rb_of id)) ≡ reg h.state (source2 insn))
+unfolding ra_of rb_of
 operands_are s limit t h c next_pc id csrs regs insn ti st ph k ne =
     let low : nat_lt id.phase 4 ≡ true = lt-ltb id.phase 4 (phase_low s limit t h c id.phase ph ne) in (
       operand h.state regs (ra_of id) ti.regs_are (read1_low (nat_lt id.phase 4) (row_of id) (named_row id))
@@ -311,10 +313,10 @@ no_operands s t h v id e op rd rs1 rs2 k = absurd (none_row (sym e ∙ k))
 
 -- without a row the item traps: its fetch failed, or its word is illegal
 cause_none : (csrs : Csrs) (fault : ℕ) → is_some_cause (cause_of csrs fault None) ≡ true
-unfolding cause_of
-cause_none csrs fault = by (not (fault == 0))
+unfolding cause_of row_cause
+cause_none csrs fault = by (fault == 0)
   where
-    by : (b : Bool) → is_some_cause (if b then Some 1 else Some 2) ≡ true
+    by : (b : Bool) → is_some_cause (if b then Some 2 else Some 1) ≡ true
     by true = refl
     by false = refl
 
@@ -323,6 +325,7 @@ none_sees : (s : Setup) (t : ℕ) (h : Story) (c : ℕ) (id : IdState) (a b : �
     → kind_of s t h ≡ AnInstruction → item_at s t h ≡ item_of (settings_of s) h.times.ctl view
     → trap_phase s t h ≡ view_phase (Some view) → view.kind ≡ 1 → view.addr ≡ None
     → SeesBy s t h c id a b fixed csrs None true
+unfolding access_by refused_by
 none_sees s t h c id a b fixed csrs view k i p e n =
     let v : Eyes = eyes_at None a b true fixed id csrs (lines_in (settings_of s) c) s.mul in
     (no_operands s t h v id refl, traps_with s t h c v view k i p e n refl refl (cause_none csrs id.fault))
@@ -472,7 +475,7 @@ module _ (s : Setup) (limit t : ℕ) (h : Story) (c next_pc : ℕ) (id : IdState
   interrupt_view number = refl
 
   interrupt_sees : (number : ℕ) → kind_of s t h ≡ AnInterrupt number → Sees s t h c id (eyes_in s c id csrs regs)
-  unfolding item_of
+  unfolding item_of row_of access_by refused_by
   interrupt_sees number k =
       let kind : id.kind ≡ 2 = item.kind ∙ ap (λ x. (staged_by s h x).kind) k in
       let fault : (id.fault == 0) ≡ true = ap (λ n. n == 0) (item.fault ∙ ap (fault_by s h) k) in
@@ -496,7 +499,7 @@ module _ (s : Setup) (limit t : ℕ) (h : Story) (c next_pc : ℕ) (id : IdState
 
   -- a dummy is seen by the row of its word, with fixed timing and so with its kind's cost
   dummy_sees : kind_of s t h ≡ ADummy → Sees s t h c id (eyes_in s c id csrs regs)
-  unfolding dummy_item
+  unfolding dummy_item row_of access_by refused_by cost_by
   dummy_sees k =
       let lfsr : ℕ = h.times.dummies.lfsr in
       let kind : id.kind ≡ 1 = item.kind ∙ ap (λ x. (staged_by s h x).kind) k in

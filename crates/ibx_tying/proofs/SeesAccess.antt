@@ -15,12 +15,12 @@ use Rattle.ibx_time.specs.Settings.{Setup}
 use Rattle.ibx_time.specs.Items.{Portions, portions_by}
 use Rattle.ibx_time.specs.Times.{AnInstruction}
 use Rattle.ibx_time.specs.History.{Story, access_at, item_at, kind_of}
-use Rattle.ibx_machine.specs.Core.{is_denied}
 use Rattle.ibx_joining.proofs.Fetches.{is_unmapped}
 use Rattle.ibx_joining.proofs.Stages.{trap_phase}
 use Rattle.ibx_joining.proofs.StageSide.{Eyes, Way, accesses, is_access, portions_phase, refused}
 use Rattle.ibx_tying.proofs.SeesRows.{state_there}
 use Rattle.ibx_csr.specs.Modes.{access_machine}
+use Rattle.ibx_core.specs.Sights.{is_denied}
 
 -- ---- by tests: protection refuses the first portion, there is a second, it is refused, and no memory answers the
 -- first and the second
@@ -134,7 +134,7 @@ access_by_tests s t h c v w false false r2 false u2 x =
 pub denied_is : (s : Setup) (h : Story) (csrs : Csrs) (n : ℕ) (w : Access) (kind : AccessKind) (second : Bool)
     → values csrs ≡ counters_after h.state.csrs n → (if w.store then Write else Read) ≡ kind
     → is_denied csrs w second ≡ is_refused (state_there h).csrs w.addr w.size kind second
-unfolding counters_after
+unfolding counters_after is_denied allowed
 denied_is s h csrs n w kind second e k =
     ap (λ (v : CsrValues). not (allowed (cfg_bytes v) v.pmpaddr (portion_addr w.addr second)
     (portion_size w.addr w.size second) (if w.store then Write else Read) (access_machine v))) e

@@ -12,10 +12,10 @@ use Rattle.ibx_decoder.proofs.ByFields.{op_rows}
 use Rattle.ibx_decoder.proofs.LowBits.{low_bits}
 use Rattle.ibx_decoder.specs.Instructions.{instruction_of}
 use Rattle.ibx_isa.specs.Lengths.{is_long}
-use Rattle.ibx_machine.specs.Core.{cost_by}
 use Rattle.ibx_time.specs.Dummies.{dummy_cost}
 use Rattle.ibx_dummy.specs.Dummies.{dummy_funct, dummy_kind, dummy_word}
 use Rattle.ibx_tying.proofs.SeesRows.{md_few, md_fixed}
+use Rattle.ibx_core.specs.Sights.{cost_by}
 
 -- a dummy's word by its function and registers
 abbrev word_by : ℕ → ℕ → ℕ → ℕ
@@ -79,7 +79,7 @@ and_row r1 r2 a b =
 -- so each costs what the table of dummies says
 cost_in : (k r1 r2 b : ℕ) (mul : MulKind) → k < 4 → r1 < 32 → r2 < 32
     → cost_by (instruction_of (word_by (dummy_funct k) r1 r2)) b true mul ≡ dummy_cost mul k
-unfolding dummy_cost
+unfolding dummy_cost cost_by
 cost_in zero r1 r2 b mul l p q =
     ap (λ o. cost_by o b true mul) (long_op (word_by 0 r1 r2) (omega arith) ∙ add_row r1 r2 p q)
 cost_in (suc zero) r1 r2 b mul l p q =

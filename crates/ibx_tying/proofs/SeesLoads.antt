@@ -24,13 +24,13 @@ use Rattle.ibx_time.specs.Controls.{ctl_of}
 use Rattle.ibx_time.specs.Items.{Item, portions_at, portions_by, portions_for, retired_item}
 use Rattle.ibx_time.specs.History.{Story, access_at, item_at}
 use Rattle.ibx_id.specs.declared.stage.IdState.{IdState}
-use Rattle.ibx_machine.specs.Core.{access_by, cause_of, refused_by}
 use Rattle.ibx_joining.proofs.Fetches.{is_unmapped}
 use Rattle.ibx_joining.proofs.Stages.{trap_phase}
 use Rattle.ibx_joining.proofs.StageSide.{Eyes, Way}
 use Rattle.ibx_joining.proofs.ArchSide.{eyes_at}
 use Rattle.ibx_tying.proofs.SeesRows.{IsRow, retired_is, retired_phase, state_there, trapped_is, view_done}
 use Rattle.ibx_tying.proofs.SeesAccess.{Comes, access_by_tests, denied_at, denied_is, first_some, second_apart}
+use Rattle.ibx_core.specs.Sights.{access_by, cause_of, refused_by, row_cause}
 
 -- ---- the item, by the portion that fails
 
@@ -149,6 +149,7 @@ module _ (s : Setup) (t : ℕ) (h : Story) (c word length a b n : ℕ) (fixed : 
   denied_seen : (w : Access) (kind : AccessKind) → (if w.store then Write else Read) ≡ kind
       → refused_by csrs (Some w) ≡ (if is_refused (state_there h).csrs w.addr w.size kind false then 1
       else if has_second w.addr w.size && is_refused (state_there h).csrs w.addr w.size kind true then 2 else 0)
+  unfolding refused_by
   denied_seen w kind k =
       ap₂ (λ u v. if u then 1 else if has_second w.addr w.size && v then 2 else 0)
       (denied_is s h csrs n w kind false tied k) (denied_is s h csrs n w kind true tied k)
@@ -198,7 +199,7 @@ module _ (s : Setup) (t : ℕ) (h : Story) (c word length a b n : ℕ) (fixed : 
   pub load_way : (op : LoadOp) (rd rs1 imm : ℕ) (ops : Option (ℕ × ℕ)) → (trap_phase s t h ≢ 4 → a ≡ reg h.state rs1)
       → IsRow s t h (Load op rd rs1 imm) word ops (done_there (Load op rd rs1 imm))
       → Way s t h c (seen (Load op rd rs1 imm))
-  unfolding execute load cause_of
+  unfolding execute load cause_of access_by row_cause
   load_way op rd rs1 imm ops operand r =
       let x : State = state_there h in
       let addr : ℕ = (reg h.state rs1 + imm) % 2 ^ 32 in
@@ -225,7 +226,7 @@ module _ (s : Setup) (t : ℕ) (h : Story) (c word length a b n : ℕ) (fixed : 
       → (trap_phase s t h ≢ 4 → (a ≡ reg h.state rs1) × (b ≡ reg h.state rs2))
       → IsRow s t h (Store size rs1 rs2 imm) word ops (done_there (Store size rs1 rs2 imm))
       → Way s t h c (seen (Store size rs1 rs2 imm))
-  unfolding execute store cause_of
+  unfolding execute store cause_of access_by row_cause
   store_way size rs1 rs2 imm ops operands_ r =
       let x : State = state_there h in
       let addr : ℕ = (reg h.state rs1 + imm) % 2 ^ 32 in

@@ -37,10 +37,10 @@ use Rattle.ibx_id.specs.Turns.{held, branches, ends_at, is_some_cause, worked}
 use Rattle.ibx_id.specs.declared.stage.Turn.{Turn}
 use Rattle.ibx_id.specs.declared.stage.IdState.{IdState}
 use Rattle.ibx_id.specs.declared.stage.Turn.TheVariants.{Hold, Retire}
-use Rattle.ibx_machine.specs.Core.{lacks_value, cause_of}
 use Rattle.ibx_joining.proofs.Stages.{trap_phase, view_phase}
 use Rattle.ibx_joining.proofs.StageSide.{sleeps, Eyes, Way, in_by, caused, works}
 use Rattle.ibx_joining.proofs.ArchSide.{eyes_at}
+use Rattle.ibx_core.specs.Sights.{lacks_value, cause_of, access_by, refused_by, row_cause, csr_cause, cost_by}
 
 -- ---- an item without a portion, by its view
 
@@ -300,7 +300,7 @@ module _ (s : Setup) (t : ℕ) (h : Story) (c word length a b : ℕ) (fixed : Bo
   -- one for each row: what the stage sees is how it ends
   pub lui_way : (rd imm : ℕ) (ops : Option (ℕ × ℕ)) → IsRow s t h (Lui rd imm) word ops (done_there (Lui rd imm))
       → Way s t h c (seen (Lui rd imm))
-  unfolding view_of finished execute retired_item worked cause_of
+  unfolding view_of finished execute retired_item worked cause_of access_by refused_by row_cause cost_by
   lui_way rd imm ops r =
       retires_with s t h c (seen (Lui rd imm)) (Lui rd imm) word ops (done_there (Lui rd imm)) 0 false r refl refl
       (record { portions = refl; cost_is = refl; sleeps = refl; redirects_is = refl }) (omega arith) refl refl
@@ -309,7 +309,7 @@ module _ (s : Setup) (t : ℕ) (h : Story) (c word length a b : ℕ) (fixed : Bo
   -- AUIPC retires at once
   pub auipc_way : (rd imm : ℕ) (ops : Option (ℕ × ℕ)) → IsRow s t h (Auipc rd imm) word ops (done_there (Auipc rd imm))
       → Way s t h c (seen (Auipc rd imm))
-  unfolding view_of finished execute retired_item worked cause_of
+  unfolding view_of finished execute retired_item worked cause_of access_by refused_by row_cause cost_by
   auipc_way rd imm ops r =
       retires_with s t h c (seen (Auipc rd imm)) (Auipc rd imm) word ops (done_there (Auipc rd imm)) 0 false r refl
       refl
@@ -320,7 +320,7 @@ module _ (s : Setup) (t : ℕ) (h : Story) (c word length a b : ℕ) (fixed : Bo
   pub alu_imm_way : (op : AluOp) (rd rs1 imm : ℕ) (ops : Option (ℕ × ℕ))
       → IsRow s t h (AluImm op rd rs1 imm) word ops (done_there (AluImm op rd rs1 imm))
       → Way s t h c (seen (AluImm op rd rs1 imm))
-  unfolding view_of finished execute retired_item worked cause_of
+  unfolding view_of finished execute retired_item worked cause_of access_by refused_by row_cause cost_by
   alu_imm_way op rd rs1 imm ops r =
       retires_with s t h c (seen (AluImm op rd rs1 imm)) (AluImm op rd rs1 imm) word ops
       (done_there (AluImm op rd rs1 imm)) 0 false r refl refl
@@ -331,7 +331,7 @@ module _ (s : Setup) (t : ℕ) (h : Story) (c word length a b : ℕ) (fixed : Bo
   pub alu_way : (op : AluOp) (rd rs1 rs2 : ℕ) (ops : Option (ℕ × ℕ))
       → IsRow s t h (Alu op rd rs1 rs2) word ops (done_there (Alu op rd rs1 rs2))
       → Way s t h c (seen (Alu op rd rs1 rs2))
-  unfolding view_of finished execute retired_item worked cause_of
+  unfolding view_of finished execute retired_item worked cause_of access_by refused_by row_cause cost_by
   alu_way op rd rs1 rs2 ops r =
       retires_with s t h c (seen (Alu op rd rs1 rs2)) (Alu op rd rs1 rs2) word ops (done_there (Alu op rd rs1 rs2)) 0
       false r refl refl
@@ -340,7 +340,7 @@ module _ (s : Setup) (t : ℕ) (h : Story) (c word length a b : ℕ) (fixed : Bo
 
   -- FENCE retires at once, and doesn't redirect
   pub fence_way : (ops : Option (ℕ × ℕ)) → IsRow s t h Fence word ops (done_there Fence) → Way s t h c (seen Fence)
-  unfolding view_of finished execute retired_item worked cause_of
+  unfolding view_of finished execute retired_item worked cause_of access_by refused_by row_cause cost_by
   fence_way ops r =
       retires_with s t h c (seen Fence) Fence word ops (done_there Fence) 0 false r refl refl
       (record { portions = refl; cost_is = refl; sleeps = refl; redirects_is = refl }) (omega arith) refl refl
@@ -349,7 +349,7 @@ module _ (s : Setup) (t : ℕ) (h : Story) (c word length a b : ℕ) (fixed : Bo
   -- FENCE.I retires at once and redirects, so that what follows is fetched anew
   pub fence_i_way : (ops : Option (ℕ × ℕ)) → IsRow s t h FenceI word ops (done_there FenceI)
       → Way s t h c (seen FenceI)
-  unfolding view_of finished execute retired_item worked cause_of
+  unfolding view_of finished execute retired_item worked cause_of access_by refused_by row_cause
   fence_i_way ops r =
       retires_with s t h c (seen FenceI) FenceI word ops (done_there FenceI) 0 true r refl refl
       (record { portions = refl; cost_is = refl; sleeps = refl; redirects_is = refl }) (omega arith) refl refl
@@ -358,7 +358,7 @@ module _ (s : Setup) (t : ℕ) (h : Story) (c word length a b : ℕ) (fixed : Bo
   -- JAL retires at once and redirects
   pub jal_way : (rd imm : ℕ) (ops : Option (ℕ × ℕ)) → IsRow s t h (Jal rd imm) word ops (done_there (Jal rd imm))
       → Way s t h c (seen (Jal rd imm))
-  unfolding view_of finished execute retired_item worked cause_of
+  unfolding view_of finished execute retired_item worked cause_of access_by refused_by row_cause
   jal_way rd imm ops r =
       retires_with s t h c (seen (Jal rd imm)) (Jal rd imm) word ops (done_there (Jal rd imm)) 0 true r refl refl
       (record { portions = refl; cost_is = refl; sleeps = refl; redirects_is = refl }) (omega arith) refl refl
@@ -367,7 +367,7 @@ module _ (s : Setup) (t : ℕ) (h : Story) (c word length a b : ℕ) (fixed : Bo
   -- JALR does as JAL, wherever its register leads
   pub jalr_way : (rd rs1 imm : ℕ) (ops : Option (ℕ × ℕ))
       → IsRow s t h (Jalr rd rs1 imm) word ops (done_there (Jalr rd rs1 imm)) → Way s t h c (seen (Jalr rd rs1 imm))
-  unfolding view_of finished execute retired_item worked cause_of
+  unfolding view_of finished execute retired_item worked cause_of access_by refused_by row_cause
   jalr_way rd rs1 imm ops r =
       retires_with s t h c (seen (Jalr rd rs1 imm)) (Jalr rd rs1 imm) word ops (done_there (Jalr rd rs1 imm)) 0 true r
       refl refl
@@ -380,7 +380,7 @@ module _ (s : Setup) (t : ℕ) (h : Story) (c word length a b : ℕ) (fixed : Bo
       → (trap_phase s t h ≡ 0 → SeesOps h ops a b fixed)
       → IsRow s t h (Branch op rs1 rs2 imm) word ops (done_there (Branch op rs1 rs2 imm))
       → Way s t h c (seen (Branch op rs1 rs2 imm))
-  unfolding view_of finished execute retired_item worked cause_of
+  unfolding view_of finished execute retired_item worked cause_of access_by refused_by row_cause cost_by
   branch_way op rs1 rs2 imm ops same r =
       let insn : Insn = Branch op rs1 rs2 imm in
       let n : ℕ = parcels_of word in
@@ -397,7 +397,7 @@ module _ (s : Setup) (t : ℕ) (h : Story) (c word length a b : ℕ) (fixed : Bo
   pub md_way : (op : MdOp) (rd rs1 rs2 : ℕ) (ops : Option (ℕ × ℕ)) → (trap_phase s t h ≡ 0 → SeesOps h ops a b fixed)
       → IsRow s t h (MulDiv op rd rs1 rs2) word ops (done_there (MulDiv op rd rs1 rs2))
       → Way s t h c (seen (MulDiv op rd rs1 rs2))
-  unfolding view_of finished execute retired_item worked cause_of
+  unfolding view_of finished execute retired_item worked cause_of access_by refused_by row_cause cost_by
   md_way op rd rs1 rs2 ops same r =
       let insn : Insn = MulDiv op rd rs1 rs2 in
       let o : SeesOps h ops a b fixed = same (r.phase ∙ retired_phase (view_done h word ops (done_there insn)) refl) in
@@ -412,7 +412,7 @@ module _ (s : Setup) (t : ℕ) (h : Story) (c word length a b : ℕ) (fixed : Bo
   -- ECALL traps in each mode, without an address
   pub ecall_way : (ops : Option (ℕ × ℕ)) → Fields h csrs → IsRow s t h Ecall word ops (done_there Ecall)
       → Way s t h c (seen Ecall)
-  unfolding view_of finished execute cause_of counters_after
+  unfolding view_of finished execute cause_of counters_after access_by refused_by row_cause
   ecall_way ops f r =
       by_mode h.state.csrs.machine r
     where
@@ -429,7 +429,7 @@ module _ (s : Setup) (t : ℕ) (h : Story) (c word length a b : ℕ) (fixed : Bo
 
   -- EBREAK traps, without an address
   pub ebreak_way : (ops : Option (ℕ × ℕ)) → IsRow s t h Ebreak word ops (done_there Ebreak) → Way s t h c (seen Ebreak)
-  unfolding view_of finished execute cause_of
+  unfolding view_of finished execute cause_of access_by refused_by row_cause
   ebreak_way ops r =
       traps_with s t h c (seen Ebreak) (view_done h word ops (done_there Ebreak)) r.kind r.item r.phase refl refl refl
       refl
@@ -442,7 +442,7 @@ module _ (s : Setup) (t : ℕ) (h : Story) (c word length a b : ℕ) (fixed : Bo
       → (view_done h word ops x).kind ≡ 0 → (view_done h word ops x).word ≡ word
       → (seen Mret).trap ≡ (if m then None else Some 2)
       → IsRow s t h Mret word ops (if not m then illegal (state_there h) word else x) → Way s t h c (seen Mret)
-  unfolding view_of finished retired_item worked
+  unfolding view_of finished retired_item worked access_by refused_by
   mret_by true ops x k w e r =
       retires_with s t h c (seen Mret) Mret word ops x 1 true r k w
       (record { portions = refl; cost_is = refl; sleeps = refl; redirects_is = refl }) (omega arith) refl refl
@@ -454,7 +454,7 @@ module _ (s : Setup) (t : ℕ) (h : Story) (c word length a b : ℕ) (fixed : Bo
   -- so MRET takes a cycle more and redirects in M mode, and traps in U mode
   pub mret_way : (ops : Option (ℕ × ℕ)) → Fields h csrs → IsRow s t h Mret word ops (done_there Mret)
       → Way s t h c (seen Mret)
-  unfolding view_of finished execute cause_of counters_after return_from_trap
+  unfolding view_of finished execute cause_of counters_after return_from_trap row_cause
   mret_way ops f r =
       mret_by h.state.csrs.machine ops _ refl refl
       (cause_there Mret (if csrs.priv_ then None else Some 2) refl ∙ ap (λ m. if m then None else Some 2) f.machine) r
@@ -465,7 +465,7 @@ module _ (s : Setup) (t : ℕ) (h : Story) (c word length a b : ℕ) (fixed : Bo
       → (seen Wfi).trap ≡ (if m then None else Some 2)
       → (seen Wfi).wake ≡ is_woken h.times.ctl (lines_in (settings_of s) c)
       → IsRow s t h Wfi word ops (if m then x else illegal (state_there h) word) → Way s t h c (seen Wfi)
-  unfolding view_of finished retired_item
+  unfolding view_of finished retired_item access_by refused_by cost_by
   wfi_by true ops x k w e wake r =
       let view : View = view_done h word ops x in
       let i : item_at s t h ≡ retired_item (settings_of s) h.times.ctl view (Some Wfi) (plain (parcels_of view.word)) =
@@ -479,7 +479,7 @@ module _ (s : Setup) (t : ℕ) (h : Story) (c word length a b : ℕ) (fixed : Bo
   -- so WFI sleeps where it may, until a line that mie enables wakes it, and else traps
   pub wfi_way : (ops : Option (ℕ × ℕ)) → Fields h csrs → lines ≡ lines_in (settings_of s) c
       → IsRow s t h Wfi word ops (done_there Wfi) → Way s t h c (seen Wfi)
-  unfolding view_of finished execute cause_of counters_after
+  unfolding view_of finished execute cause_of counters_after row_cause values
   wfi_way ops f l r =
       let waits : Bool → ℕ → Option ℕ = λ m st. if m || bit_and st 0x200000 == 0 then None else Some 2 in
       wfi_by (h.state.csrs.machine || bit_and h.state.csrs.mstatus 0x200000 == 0) ops _ refl refl
@@ -516,7 +516,7 @@ module _ (s : Setup) (t : ℕ) (h : Story) (c word length a b : ℕ) (fixed : Bo
       ≡ (if lacks_value o || (writes op src && not (csr_can_write h.state.csrs addr)) then Some 2 else None)
       → IsRow s t h (Csr op rd src imm addr) word ops (csr_with (state_there h) op rd src source addr word next o)
       → Way s t h c (seen (Csr op rd src imm addr))
-  unfolding view_of finished retired_item worked csr_can_write counters_after
+  unfolding view_of finished retired_item worked csr_can_write counters_after access_by refused_by cost_by
   csr_by op rd src source addr next imm ops None e r =
       let insn : Insn = Csr op rd src imm addr in
       traps_with s t h c (seen insn) (view_done h word ops (illegal (state_there h) word)) r.kind r.item r.phase refl
@@ -538,7 +538,7 @@ module _ (s : Setup) (t : ℕ) (h : Story) (c word length a b : ℕ) (fixed : Bo
       → (seen (Csr op rd src imm addr)).trap
       ≡ (if lacks_value (csr_read (state_there h).csrs addr l)
       || (writes op src && not (csr_can_write h.state.csrs addr)) then Some 2 else None)
-  unfolding cause_of csr_read csr_can_write values counters_after
+  unfolding cause_of csr_read csr_can_write values counters_after row_cause csr_cause
   csr_trap op rd src addr l imm f =
       let ends : Bool → Bool → Option ℕ = λ lacks p. if lacks || (writes op src && not p) then Some 2 else None in
       let m : Bool = h.state.csrs.machine in

@@ -16,11 +16,11 @@ use Rattle.ibx_arch.specs.Memory.{Memory, read_byte, read_bytes}
 use Rattle.ibx_arch.specs.State.{State, reg}
 use Rattle.ibx_decoder.specs.Instructions.{instruction_of}
 use Rattle.ibx_isa.specs.Lengths.{is_long}
-use Rattle.ibx_machine.specs.Core.{row_of, stage_word}
 use Rattle.ibx_id.specs.declared.stage.IdState.{IdState}
 use Rattle.ibx_joining.proofs.Stages.{fault_of}
 use Rattle.ibx_joining.proofs.ArchSide.{fetched_word}
 use Rattle.ibx_tying.proofs.Fetches.{fetch_by}
+use Rattle.ibx_core.specs.Sights.{row_of, stage_word}
 
 -- ---- halfwords
 
@@ -96,6 +96,7 @@ kind_low n e = lt-ltb n 2 (omega (arith, e))
 -- the row is the instruction that was fetched, or none after a fault
 pub row_is : (pc word size : ℕ) (id : IdState) → IsHeld pc (Instruction word size)
     → Fields (Instruction word size) pc id → row_of id ≡ instruction_of word
+unfolding row_of
 row_is pc word size id g f =
     row_if id.valid (nat_lt id.kind 2) (id.fault == 0) (instruction_of (stage_word id)) f.valid
     (kind_low id.kind f.kind) true (ap (λ n. n == 0) f.fault)
@@ -103,6 +104,7 @@ row_is pc word size id g f =
 
 -- after a fetch that failed the stage has no row
 pub no_row : (pc addr : ℕ) (id : IdState) → IsHeld pc (Unsound addr) → Fields (Unsound addr) pc id → row_of id ≡ None
+unfolding row_of
 no_row pc addr id g f =
     row_if id.valid (nat_lt id.kind 2) (id.fault == 0) (instruction_of (stage_word id)) f.valid
     (kind_low id.kind f.kind) false (ap (λ n. n == 0) f.fault ∙ g)

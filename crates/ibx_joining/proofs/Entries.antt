@@ -1,13 +1,11 @@
 -- What enters the stage is the same. In the cycle of a redirect no parcel is ready, whatever stands in its place.
-use Rattle.std.proofs.Common.{◌≡◌, ℕ, Bool, true, false, not, ◌||◌, Option, Some, None, refl, ap, ◌∙◌, arith}
+use Rattle.std.proofs.Common.{◌≡◌, ℕ, Bool, true, false, ◌||◌, Option, Some, None, refl, ap, ◌∙◌, arith}
 use Rattle.std.proofs.lemmas.Bool.{le-ltb}
-use Rattle.std.specs.Prelude.{◌&&◌, ◌+◌, ◌%◌, ◌^◌, ◌/◌, nat_lt}
-use Rattle.ibx_isa.specs.Lengths.{is_long}
+use Rattle.std.specs.Prelude.{◌%◌, ◌/◌, nat_lt}
 use Rattle.ibx_csr.specs.declared.csrs.Csrs.{Csrs}
-use Rattle.ibx_csr.specs.Fields.{values}
 use Rattle.ibx_trap.specs.Interrupts.{pending_of}
 use Rattle.ibx_dummy.specs.declared.unit.Dummy.{Dummy as DummyUnit}
-use Rattle.ibx_dummy.specs.Dummies.{counted_by, is_due}
+use Rattle.ibx_dummy.specs.Dummies.{is_due}
 use Rattle.ibx_prefetch.specs.declared.buffer.Head.{Head}
 use Rattle.ibx_prefetch.specs.declared.buffer.Prefetch.{Prefetch}
 use Rattle.ibx_prefetch.specs.declared.buffer.WordAns.{WordAns}
@@ -17,44 +15,6 @@ use Rattle.ibx_id.specs.declared.stage.Turn.TheVariants.{Hold}
 use Rattle.ibx_core.specs.Effects.{Effect}
 use Rattle.ibx_core.specs.Core.{head_at, head_by, no_parcel}
 use Rattle.ibx_core.specs.Entries.{admits_at, admits_by, dummy_mask, enables_dummies, entry_by, fetched_by, fetched_of}
-use Rattle.ibx_core.specs.Entries.{may_execute}
-use Rattle.ibx_machine.specs.Core.{admits_by as machine_admits_by, entry_by as machine_entry_by}
-use Rattle.ibx_machine.specs.Core.{fetched_by as machine_fetched_by}
-use Rattle.ibx_matching.specs.Translation.{machine_effect, machine_entry}
-
--- ---- with the same parcels
-
--- by the tests of both parcels
-fetched_is : (ready sound long ready2 sound2 : Bool) (pc first second : ℕ) (d counted : DummyUnit)
-    → machine_fetched_by ready sound long ready2 sound2 pc first second d counted
-    ≡ machine_entry (fetched_by ready sound long ready2 sound2 pc first second d counted)
-unfolding machine_fetched_by fetched_by
-fetched_is false sound long ready2 sound2 pc first second d counted = refl
-fetched_is true false long ready2 sound2 pc first second d counted = refl
-fetched_is true true false ready2 sound2 pc first second d counted = refl
-fetched_is true true true false sound2 pc first second d counted = refl
-fetched_is true true true true false pc first second d counted = refl
-fetched_is true true true true true pc first second d counted = refl
-
--- by what else is due
-entry_by_is : (number : Option ℕ) (due : Bool) (h : Head) (c : Csrs) (d : DummyUnit) (pc : ℕ)
-    → machine_entry_by number due h c d pc ≡ machine_entry (entry_by number due h c d pc)
-unfolding machine_entry_by entry_by fetched_of may_execute values
-entry_by_is (Some number) due h c d pc = refl
-entry_by_is None true h c d pc = refl
-entry_by_is None false h c d pc =
-    fetched_is h.first.ready (not h.first.err && may_execute c pc) (is_long h.first.half) h.second.ready
-    (not h.second.err && may_execute c ((pc + 2) % 2 ^ 32)) pc
-    h.first.half h.second.half d (counted_by (enables_dummies c) d)
-
--- by the turn
-admits_is : (turn : Turn) (h : Head) (e : Effect) (lines : ℕ)
-    → machine_admits_by turn h (machine_effect e) lines ≡ machine_entry (admits_by turn h e lines)
-unfolding machine_admits_by admits_at values
-admits_is (Hold st) h e lines = refl
-admits_is _ h e lines =
-    entry_by_is (pending_of e.csrs.priv_ e.csrs.mstatus e.csrs.mie lines)
-    (is_due (enables_dummies e.csrs) (dummy_mask e.csrs) e.dummies) h e.csrs e.dummies e.next_pc
 
 -- ---- with no parcel that is ready
 
@@ -97,17 +57,17 @@ no_head ans target f =
 
 -- by whether the cycle is redirected
 entry_at : (turn : Turn) (redirect : Option ℕ) (ans : WordAns) (f : Prefetch) (e : Effect) (lines : ℕ)
-    → machine_admits_by turn (head_of (fetch_after_answer ans redirect f)) (machine_effect e) lines
-    ≡ machine_entry (admits_by turn (head_by redirect ans f) e lines)
+    → admits_by turn (head_of (fetch_after_answer ans redirect f)) e lines
+    ≡ admits_by turn (head_by redirect ans f) e lines
 unfolding head_at
-entry_at turn None ans f e lines = admits_is turn (head_of (fetch_after_answer ans None f)) e lines
+entry_at turn None ans f e lines = refl
 entry_at turn (Some target) ans f e lines =
     let h : Head = head_of (fetch_after_answer ans (Some target) f) in
     let none : Head = record { first = no_parcel; second = no_parcel } in
-    admits_is turn h e lines ∙ ap machine_entry (unready_admits turn h none e lines (no_head ans target f) refl)
+    unready_admits turn h none e lines (no_head ans target f) refl
 
 -- what enters in a cycle
 pub entry_is : (turn : Turn) (ans : WordAns) (f : Prefetch) (e : Effect) (lines : ℕ)
-    → machine_admits_by turn (head_of (fetch_after_answer ans e.redirect f)) (machine_effect e) lines
-    ≡ machine_entry (admits_by turn (head_by e.redirect ans f) e lines)
+    → admits_by turn (head_of (fetch_after_answer ans e.redirect f)) e lines
+    ≡ admits_by turn (head_by e.redirect ans f) e lines
 entry_is turn ans f e lines = entry_at turn e.redirect ans f e lines
