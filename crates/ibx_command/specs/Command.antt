@@ -9,7 +9,7 @@ use Rattle.ibx_number.specs.Number.{number_of}
 use Rattle.ibx_elf.specs.declared.ram.Ram.{Ram}
 use Rattle.ibx_elf.specs.Ram.{IsRamRange}
 use Rattle.ibx_command.specs.Parts.{Piece, pieces_of, all_fit, files_of, only, both}
-use Rattle.ibx_command.specs.Numbers.{cycles_rule, ram_base_rule, ram_size_rule}
+use Rattle.ibx_command.specs.Numbers.{cycles_rule, delay_rule, ram_base_rule, ram_size_rule}
 use Rattle.ibx_command.specs.Options.{plan_name, mul_name, IsInRange, plan_choice_in, plan_in, options_in, ram_in}
 
 -- what a command does: run a file with or without a plan; run a file twice, with and without the flip of the plan; run
@@ -42,7 +42,8 @@ IsPossible (Disassemble disassemble) = IsRamRange disassemble.ram
 
 -- the options of a command that runs a machine
 abbrev pub run_options : List (List ℕ)
-run_options = cycles_rule.name ∷ plan_name ∷ mul_name ∷ ram_base_rule.name ∷ ram_size_rule.name ∷ []
+run_options =
+    cycles_rule.name ∷ plan_name ∷ mul_name ∷ delay_rule.name ∷ ram_base_rule.name ∷ ram_size_rule.name ∷ []
 
 -- what the words after `run` mean: each piece fits, and there is one file
 unfoldable pub run_of : List Piece → Option Meaning

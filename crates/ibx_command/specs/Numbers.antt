@@ -22,6 +22,10 @@ ram_base_rule = record { name = codes "--ram-base"; default = 0x00100000; least 
 abbrev pub ram_size_rule : NumberRule
 ram_size_rule = record { name = codes "--ram-size"; default = 1048576; least = 0; most = 0xffffffff }
 
+-- by how many cycles the shadow is behind main
+abbrev pub delay_rule : NumberRule
+delay_rule = record { name = codes "--delay"; default = 2; least = 1; most = 4 }
+
 -- whether an option takes a number
 abbrev pub allows : NumberRule → ℕ → Bool
 allows rule n = nat_le rule.least n && nat_le n rule.most

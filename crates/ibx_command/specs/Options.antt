@@ -1,14 +1,16 @@
 -- What the commands may be told beside their files (our own rules).
-use Rattle.std.specs.Prelude.{ℕ, ◌≤◌, nat_lt, List, [], ◌∷◌, length, codes, Option, Some, None, if◌then◌else◌}
+use Rattle.std.specs.Prelude.{ℕ, ◌≤◌, ◌==◌, nat_lt, List, [], ◌∷◌, length, codes, Option, Some, None, if◌then◌else◌}
 use Rattle.std.specs.Option.{option_map, option_and_then}
 use Rattle.std.specs.Str.{bytes_eq}
 use Rattle.ibx_isa.specs.declared.insn.MulKind.{MulKind}
 use Rattle.ibx_isa.specs.declared.insn.MulKind.TheVariants.{Single, Fast, Slow}
+use Rattle.ibx_lockstep.specs.declared.delay.Delay.{Delay}
+use Rattle.ibx_lockstep.specs.declared.delay.Delay.TheVariants.{One, Two, Three, Four}
 use Rattle.ibx_elf.specs.declared.ram.Ram.{Ram}
 use Rattle.ibx_elf.specs.Ram.{IsRamRange, is_ram_range}
 use Rattle.ibx_command.specs.declared.options.Options.{Options}
 use Rattle.ibx_command.specs.Parts.{Piece, values_of, only}
-use Rattle.ibx_command.specs.Numbers.{NumberRule, cycles_rule, ram_base_rule, ram_size_rule, number_set}
+use Rattle.ibx_command.specs.Numbers.{NumberRule, cycles_rule, delay_rule, ram_base_rule, ram_size_rule, number_set}
 
 -- the option that names the plan
 abbrev pub plan_name : List ℕ
@@ -45,6 +47,14 @@ mul_set (value ∷ another ∷ more) = None
 abbrev pub mul_in : List Piece → Option MulKind
 mul_in pieces = mul_set (values_of mul_name pieces)
 
+-- the delay of so many cycles, from 1 to 4
+abbrev pub delay_of : ℕ → Delay
+delay_of cycles = if cycles == 1 then One else if cycles == 2 then Two else if cycles == 3 then Three else Four
+
+-- the delay that the option stands at
+abbrev pub delay_in : List Piece → Option Delay
+delay_in pieces = option_map delay_of (number_in delay_rule pieces)
+
 -- a word that isn't empty
 abbrev pub named : List ℕ → Option (List ℕ)
 named word = if nat_lt 0 (length word) then Some word else None
@@ -75,7 +85,8 @@ ram_in pieces = option_and_then (λ base.
 
 -- the options of a run
 unfoldable pub options_in : List Piece → Option Options
-options_in pieces = option_and_then (λ cycles. option_and_then (λ ram.
-    option_map (λ mul. record { cycles = cycles; ram = ram; mul = mul }) (mul_in pieces))
+options_in pieces = option_and_then (λ cycles. option_and_then (λ ram. option_and_then (λ mul.
+    option_map (λ delay. record { cycles = cycles; ram = ram; mul = mul; delay = delay }) (delay_in pieces))
+    (mul_in pieces))
     (ram_in pieces))
     (number_in cycles_rule pieces)

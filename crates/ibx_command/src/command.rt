@@ -4,7 +4,7 @@ ghost use Rattle.ibx_command.specs.Parts.{only, both, files_of, pieces_of};
 ghost use Rattle.ibx_command.specs.Command.{meaning_of, IsPossible, seed_named, run_of, inject_of, twin_of, gen_of};
 ghost use Rattle.ibx_command.specs.Command.{asm_of, dis_of, command_of};
 
-use crate::numbers::{CYCLES, RAM_BASE, RAM_SIZE};
+use crate::numbers::{CYCLES, DELAY, RAM_BASE, RAM_SIZE};
 use crate::options::{MUL, Options, PLAN, options_in, plan_choice_in, plan_in, ram_in};
 use crate::parts::{Found, Wanted, all_fit, find, two_files};
 use ibx_elf::Ram;
@@ -100,7 +100,14 @@ fn read_run(words: &[String]) -> Option<Command<'_>>
 {
     if !all_fit(
         words,
-        &[CYCLES.name, PLAN, MUL, RAM_BASE.name, RAM_SIZE.name],
+        &[
+            CYCLES.name,
+            PLAN,
+            MUL,
+            DELAY.name,
+            RAM_BASE.name,
+            RAM_SIZE.name,
+        ],
     ) {
         return None;
     }
@@ -121,7 +128,14 @@ fn read_inject(words: &[String]) -> Option<Command<'_>>
 {
     if !all_fit(
         words,
-        &[CYCLES.name, PLAN, MUL, RAM_BASE.name, RAM_SIZE.name],
+        &[
+            CYCLES.name,
+            PLAN,
+            MUL,
+            DELAY.name,
+            RAM_BASE.name,
+            RAM_SIZE.name,
+        ],
     ) {
         return None;
     }
@@ -142,7 +156,14 @@ fn read_twin(words: &[String]) -> Option<Command<'_>>
 {
     if !all_fit(
         words,
-        &[CYCLES.name, PLAN, MUL, RAM_BASE.name, RAM_SIZE.name],
+        &[
+            CYCLES.name,
+            PLAN,
+            MUL,
+            DELAY.name,
+            RAM_BASE.name,
+            RAM_SIZE.name,
+        ],
     ) {
         return None;
     }
@@ -226,6 +247,7 @@ fn read_dis(words: &[String]) -> Option<Command<'_>>
 /// | `--cycles` | 1 to 1,000,000,000 |
 /// | `--plan` | the name of a file, which isn't empty |
 /// | `--mul` | `single`, `fast` or `slow` |
+/// | `--delay` | 1 to 4: by how many cycles the shadow core is behind main |
 /// | `--ram-base` | a multiple of 4,096 |
 /// | `--ram-size` | a multiple of 4,096 from 4,096 to 16,777,216 |
 ///

@@ -26,6 +26,14 @@ pub(crate) const CYCLES: NumberOption = NumberOption {
     most: 1_000_000_000,
 };
 
+/// By how many cycles the shadow is behind main.
+pub(crate) const DELAY: NumberOption = NumberOption {
+    name: "--delay",
+    default: 2,
+    least: 1,
+    most: 4,
+};
+
 /// The first byte address of the RAM.
 pub(crate) const RAM_BASE: NumberOption = NumberOption {
     name: "--ram-base",

@@ -3,12 +3,13 @@ ghost use Rattle.std.specs.Option.{option_map};
 ghost use Rattle.ibx_elf.specs.Ram.{IsRamRange};
 ghost use Rattle.ibx_command.specs.Parts.{pieces_of};
 ghost use Rattle.ibx_command.specs.Options.{IsInRange, mul_named, mul_in, plan_choice_in, plan_in, checked_ram};
-ghost use Rattle.ibx_command.specs.Options.{ram_in, options_in};
+ghost use Rattle.ibx_command.specs.Options.{delay_in, ram_in, options_in};
 
-use crate::numbers::{CYCLES, RAM_BASE, RAM_SIZE, number_in};
+use crate::numbers::{CYCLES, DELAY, RAM_BASE, RAM_SIZE, number_in};
 use crate::parts::{Found, Wanted, find};
 use ibx_elf::Ram;
 use ibx_isa::MulKind;
+use ibx_lockstep::Delay;
 
 /// The file that has the plan.
 pub(crate) const PLAN: &str = "--plan";
@@ -26,6 +27,8 @@ pub struct Options {
     pub ram: Ram,
     /// The multiplier, by default `MulKind::Fast`.
     pub mul: MulKind,
+    /// By how many cycles the shadow core is behind main, by default `Delay::Two`.
+    pub delay: Delay,
 }
 
 fn mul_named(word: &str) -> Option<MulKind>
@@ -48,6 +51,18 @@ fn mul_in(words: &[String]) -> Option<MulKind>
         Found::One(word) => mul_named(word),
         Found::Several => None,
     }
+}
+
+fn delay_in(words: &[String]) -> Option<Delay>
+    ensures { result ≡ delay_in (pieces_of (map string_bytes words.now)) }
+{
+    let cycles = number_in(words, DELAY)?;
+    Some(match cycles {
+        1 => Delay::One,
+        2 => Delay::Two,
+        3 => Delay::Three,
+        _ => Delay::Four,
+    })
 }
 
 /// The name of the plan. None where it isn't given once, or is empty.
@@ -101,5 +116,11 @@ pub(crate) fn options_in(words: &[String]) -> Option<Options>
     let cycles = number_in(words, CYCLES)?;
     let ram = ram_in(words)?;
     let mul = mul_in(words)?;
-    Some(Options { cycles, ram, mul })
+    let delay = delay_in(words)?;
+    Some(Options {
+        cycles,
+        ram,
+        mul,
+        delay,
+    })
 }

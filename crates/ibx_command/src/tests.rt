@@ -1,6 +1,7 @@
 use crate::{Assemble, Command, Disassemble, Generate, Inject, Options, Run, Twin, read_words};
 use ibx_elf::Ram;
 use ibx_isa::MulKind;
+use ibx_lockstep::Delay;
 use std::alloc::Global;
 use std::test::Fail;
 
@@ -27,6 +28,7 @@ fn run(file: &str, cycles: u64, base: u32, size: u32) -> Command<'_> {
             cycles,
             ram: Ram { base, size },
             mul: MulKind::Fast,
+            delay: Delay::Two,
         },
     })
 }
@@ -46,6 +48,7 @@ fn inject<'w>(
             cycles,
             ram: Ram { base, size },
             mul,
+            delay: Delay::Two,
         },
     })
 }
@@ -62,6 +65,7 @@ fn twin<'w>(first: &'w str, second: &'w str, plan: Option<&'w str>, cycles: u64)
                 size: SIZE,
             },
             mul: MulKind::Fast,
+            delay: Delay::Two,
         },
     })
 }
@@ -76,6 +80,7 @@ fn generate(seed: u32, cycles: u64, mul: MulKind) -> Command<'static> {
                 size: SIZE,
             },
             mul,
+            delay: Delay::Two,
         },
     })
 }
@@ -93,7 +98,7 @@ fn reads_what_fits(rt: HostRuntime) -> Result<(), Fail> {
         ("run a", run("a", CYCLES, BASE, SIZE)),
         ("run a --cycles 1", run("a", 1, BASE, SIZE)),
         (
-            "run a --mul slow --plan p",
+            "run a --mul slow --plan p --delay 0x4",
             Command::Run(Run {
                 file: "a",
                 plan: Some("p"),
@@ -104,6 +109,7 @@ fn reads_what_fits(rt: HostRuntime) -> Result<(), Fail> {
                         size: SIZE,
                     },
                     mul: MulKind::Slow,
+                    delay: Delay::Four,
                 },
             }),
         ),
@@ -204,6 +210,12 @@ fn refuses_what_does_not_fit(rt: HostRuntime) -> Result<(), Fail> {
         "run a --cycle 5",
         "run a --mul quick",
         "run a --mul fast --mul fast",
+        "run a --delay 0",
+        "run a --delay 5",
+        "run a --delay two",
+        "run a --delay 2 --delay 2",
+        "gen 1 --delay 2",
+        "dis a --delay 2",
         "run a --plan",
         "run a --plan ",
         "run a --plan p --plan p",

@@ -1,7 +1,8 @@
--- A flip is noticed: the verdict has no difference without an alert within two cycles.
-use Rattle.std.proofs.Common.{◌≡◌, ℕ, ◌^◌, ◌<◌, List, Option, Some, None, true, length, refl, sym, subst, arith}
-use Rattle.std.specs.Prelude.{All, map}
+-- A flip is noticed: the verdict has no difference without an alert within the delay plus one cycles.
+use Rattle.std.proofs.Common.{◌≡◌, ℕ, ◌+◌, ◌^◌, ◌<◌, List, Option, Some, None, true, length, refl, sym, subst, arith}
+use Rattle.std.specs.Prelude.{All, map, replicate}
 use Rattle.std.specs.Option.{option_map}
+use Rattle.std.proofs.lemmas.List.{length-replicate}
 use Rattle.std.proofs.lemmas.List.Elements.{All-map}
 use Rattle.std.proofs.lemmas.Nat.{mod_below}
 use Rattle.ibx_secded.specs.Code.{payload_of}
@@ -31,7 +32,8 @@ new_is_first w new =
     let place =
     first_place (words_in w) w.place.memory.base w.place.settings w.place.iport.waits w.place.dport.waits in
     subst (λ (v : Whole State). IsFirst core_parts v) (sym new.state)
-    (first_at_reset core_parts (reset_of w.main.next_pc) (quiet_in, quiet_out) (quiet_in, quiet_out) place refl
+    (first_at_reset core_parts (reset_of w.main.next_pc) (replicate w.delay (quiet_in, quiet_out)) w.delay place
+    new.some (length-replicate w.delay (quiet_in, quiet_out)) refl
     (codewords_at_reset w.place.settings (words_in w) w.place.memory.base w.place.iport.waits w.place.dport.waits
     (payloads w.place.memory.words)))
 
@@ -41,11 +43,11 @@ cycle_of-with w f None = refl
 cycle_of-with w f (Some n) = refl
 
 -- the verdict of a flip on a system as it was opened
-pub is_noticed : (w : Whole State) (f : Flip) (cycles : ℕ) → IsAsNew w → site_fits (length w.place.memory.words) f.site
-    ≡ true → IsNoticed (verdict w f cycles)
+pub is_noticed : (w : Whole State) (f : Flip) (cycles : ℕ) → IsAsNew w
+    → site_fits (length w.place.memory.words) w.delay f.site ≡ true → IsNoticed (w.delay + 1) (verdict w f cycles)
 unfolding verdict
 is_noticed w f cycles new fits =
     let start = new_is_first w new in
-    subst (λ m. Bounded (first_diff core_parts w f cycles) m)
+    subst (λ m. Bounded (w.delay + 1) (first_diff core_parts w f cycles) m)
     (sym (cycle_of-with w f (first_alert core_parts w f cycles)))
-    (noticed core_parts core_laws w f cycles start (fits_of f.site w.place start.words fits))
+    (noticed core_parts core_laws w f cycles start (fits_of f.site w.delay w.place start.words fits))

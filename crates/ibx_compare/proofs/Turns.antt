@@ -8,13 +8,13 @@ use Rattle.std.proofs.Math.Nat.{min-eq_left, min-eq_right, zero-min}
 use Rattle.ibx_plan.specs.declared.site.Flip.{Flip}
 use Rattle.ibx_core.specs.declared.state.State.{State}
 use Rattle.ibx_flips.specs.Core.{core_parts}
-use Rattle.ibx_flips.specs.System.{Whole, is_told, output_of}
+use Rattle.ibx_flips.specs.System.{Whole, output_of}
 use Rattle.ibx_flips.specs.Flips.{alarms, before_step, differs, first_from, made, run}
 use Rattle.ibx_plan.specs.Sites.{site_fits}
 use Rattle.ibx_plan.specs.declared.site.Site.{Site}
 use Rattle.ibx_flips.proofs.Runs.{cycle_run, run_more}
 use Rattle.ibx_soc.specs.First.{IsAsNew}
-use Rattle.ibx_compare.proofs.Sizes.{size_of, size_run}
+use Rattle.ibx_compare.proofs.Sizes.{delay_run, size_of, size_run}
 use Rattle.ibx_soc.specs.declared.cycle.Cycle.{Cycle}
 use Rattle.ibx_soc.specs.Cycles.{cycle_of, soc_next}
 use Rattle.ibx_compare.specs.declared.flipped.Verdict.{Verdict}
@@ -42,7 +42,7 @@ run_start w u f cycles e = record {
 -- whether the run with the flip has an alert, by what its cycle shows
 alarm_is : (w : Whole State) (f : Flip) (n : ℕ) → alarms core_parts w f n ≡ not ((alerts_in w f n).0 == 0)
 unfolding cycle_of
-alarm_is w f n = let x = before_step core_parts w (Some f) n in alerts-told (is_told core_parts x)
+alarm_is w f n = let x = before_step core_parts w (Some f) n in alerts-told x.told
     (output_of core_parts x).alerts
 
 -- whether the bus differs, by what the cycles show
@@ -112,15 +112,15 @@ run_on w f cycles n clean faulty clean_after faulty_after v after shown flipped 
           ∙ ap (with_alerts w f) (sym (more_from_start n (alarms core_parts w f)));
     })
 
--- after two cycles more than the budget the verdict is the flip's
-pub run_ends : (w : Whole State) (f : Flip) (cycles n : ℕ) (clean faulty : Whole State) (v : Verdict) → n ≡ cycles + 2
-    → HasRun w f cycles n clean faulty v → v ≡ verdict w f cycles
+-- after the delay plus one cycles more than the budget the verdict is the flip's
+pub run_ends : (w : Whole State) (f : Flip) (cycles n : ℕ) (clean faulty : Whole State) (v : Verdict)
+    → n ≡ cycles + w.delay + 1 → HasRun w f cycles n clean faulty v → v ≡ verdict w f cycles
 unfolding verdict
 run_ends w f cycles n clean faulty v e h =
     let diff : v.first_diff ≡ first_from cycles (differs core_parts w f) 0 = h.diff ∙ ap
     (λ k. first_from k (differs core_parts w f) 0) (min-eq_right (let le : cycles ≤ n = omega arith in le)) in
-    let alert : v.first_alert ≡ with_alerts w f (first_from (cycles + 2) (alarms core_parts w f) 0) = h.alert ∙ ap
-    (λ k. with_alerts w f (first_from k (alarms core_parts w f) 0)) e in
+    let alert : v.first_alert ≡ with_alerts w f (first_from (cycles + w.delay + 1) (alarms core_parts w f) 0) =
+    h.alert ∙ ap (λ k. with_alerts w f (first_from k (alarms core_parts w f) 0)) e in
     λ t. record { first_diff = diff t; first_alert = alert t }
 
 -- ---- what the calls of a cycle ask for
@@ -134,6 +134,9 @@ cycle_is w x f n new e =
 
 -- a site that fits a system fits it after a run
 pub still_fits : (w x : Whole State) (f : Option Flip) (n : ℕ) (place : Site) → x ≡ run core_parts w f n
-    → site_fits (length w.place.memory.words) place ≡ true → site_fits (length x.place.memory.words) place ≡ true
+    → site_fits (length w.place.memory.words) w.delay place ≡ true
+    → site_fits (length x.place.memory.words) x.delay place ≡ true
 still_fits w x f n place e h =
-    subst (λ k. site_fits k place ≡ true) (sym (ap (λ (v : Whole State). size_of v) e ∙ size_run core_parts f n w)) h
+    let size : size_of x ≡ size_of w = ap (λ (v : Whole State). size_of v) e ∙ size_run core_parts f n w in
+    let delay : x.delay ≡ w.delay = ap (λ (v : Whole State). v.delay) e ∙ delay_run core_parts f n w in
+    (λ t. site_fits (size t) (delay t) place) ∙ h

@@ -21,7 +21,7 @@ abbrev pub with_alerts : Whole State → Flip → Option ℕ → Option (ℕ × 
 with_alerts w f cycle = option_map (λ n. (n, alerts_in w f n)) cycle
 
 -- The first cycle, below so many, in which the bus differs between the run without the flip and the run with it; and
--- the first, in two cycles more, in which the run with it has an alert, with the set of its alerts.
+-- the first, in the delay plus one cycles more, in which the run with it has an alert, with the set of its alerts.
 unfoldable pub verdict : Whole State → Flip → ℕ → Verdict
 verdict w f cycles = record {
   first_diff = first_diff core_parts w f cycles;
@@ -40,6 +40,6 @@ abbrev pub then_test : {A : Type 0} → Option A → Bool → A → Option A
 then_test None test n = if test then Some n else None
 then_test (Some m) test n = Some m
 
--- there is no difference without an alert, which comes at most two cycles later
-abbrev pub IsNoticed : Verdict → Type 0
-IsNoticed v = Bounded v.first_diff (option_map (λ a. a.0) v.first_alert)
+-- there is no difference without an alert, which comes at most so many cycles later
+abbrev pub IsNoticed : ℕ → Verdict → Type 0
+IsNoticed most v = Bounded most v.first_diff (option_map (λ a. a.0) v.first_alert)

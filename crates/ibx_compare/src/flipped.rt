@@ -11,15 +11,12 @@ use ibx_plan::Flip;
 use ibx_soc::{BusOut, Cycle, Soc};
 
 /// What a flip comes to: the first cycle below the budget in which the bus differs from that without the flip, and the
-/// first cycle in which alerts rise, with their set, up to two cycles past the budget.
+/// first cycle in which alerts rise, with their set, up to the delay plus one cycles past the budget.
 #[derive(Clone, Copy, Debug, PartialEq, Eq)]
 pub struct Verdict {
     pub first_diff: Option<u64>,
     pub first_alert: Option<(u64, Alerts)>,
 }
-
-// The cycles past the budget in which alerts are looked for: the delay of the shadow.
-const MORE: u64 = 2;
 
 // Whether the wires of both buses are equal.
 fn same_bus(a: &BusOut, b: &BusOut) -> bool
@@ -37,7 +34,7 @@ fn same_bus(a: &BusOut, b: &BusOut) -> bool
 // Makes the flip where its cycle has come.
 #[tactic(auto, using(ibx_flips::proofs::Runs::cycle_flipped))]
 fn make(soc: &mut Soc<'_>, flip: &Flip)
-    requires { site_fits (length soc.old.place.memory.words) flip.now.site ≡ true }
+    requires { site_fits (length soc.old.place.memory.words) soc.old.delay flip.now.site ≡ true }
     ensures made { soc.new ≡ made core_parts (Some flip.now) soc.old }
     ensures cycle { soc.new.place.cycle ≡ soc.old.place.cycle }
 {
@@ -49,7 +46,7 @@ fn make(soc: &mut Soc<'_>, flip: &Flip)
 // Makes the flip where its cycle has come, and then one cycle.
 fn turn(soc: &mut Soc<'_>, flip: &Flip) -> Cycle
     requires cycle { soc.old.place.cycle < 2 ^ 62 }
-    requires fits { site_fits (length soc.old.place.memory.words) flip.now.site ≡ true }
+    requires fits { site_fits (length soc.old.place.memory.words) soc.old.delay flip.now.site ≡ true }
     ensures shown { result ≡ cycle_of (made core_parts (Some flip.now) soc.old) }
     ensures next { soc.new ≡ soc_next (made core_parts (Some flip.now) soc.old) }
 {
@@ -74,27 +71,29 @@ impl Verdict {
     }
 }
 
-/// Runs both systems for `cycles` cycles, from 1 to 1,000,000,000, and two more, the second with one bit changed just
-/// before the cycle of the flip, and compares them. Both are as they were opened, with equal image, configuration and
-/// plan; the flip's cycle is below `cycles`, and its bit is there. It takes no memory.
+/// Runs both systems for `cycles` cycles, from 1 to 1,000,000,000, and the delay plus one more, the second with one bit
+/// changed just before the cycle of the flip, and compares them. Both are as they were opened, with equal image,
+/// configuration and plan; the flip's cycle is below `cycles`, and its bit is there. It takes no memory.
 pub fn inject(clean: &mut Soc<'_>, faulty: &mut Soc<'_>, flip: &Flip, cycles: u64) -> Verdict
     requires as_new { IsAsNew clean.old }
     requires alike { faulty.old ≡ clean.old }
     requires some { 1 ≤ cycles }
     requires most { cycles ≤ 1000000000 }
     requires below { flip.now.cycle < cycles }
-    requires fits { site_fits (length clean.old.place.memory.words) flip.now.site ≡ true }
+    requires fits { site_fits (length clean.old.place.memory.words) clean.old.delay flip.now.site ≡ true }
     ensures verdict { result ≡ verdict_of clean.old flip.now cycles }
-    // No difference without an alert, which comes at most two cycles later.
-    ensures noticed { IsNoticed result }
-    ensures clean { clean.new ≡ run core_parts clean.old None (cycles + 2) }
-    ensures faulty { faulty.new ≡ run core_parts faulty.old (Some flip.now) (cycles + 2) }
+    // No difference without an alert, which comes at most the delay plus one cycles later.
+    ensures noticed { IsNoticed (clean.old.delay + 1) result }
+    ensures clean { clean.new ≡ run core_parts clean.old None (cycles + clean.old.delay + 1) }
+    ensures faulty { faulty.new ≡ run core_parts faulty.old (Some flip.now) (cycles + clean.old.delay + 1) }
 {
     let mut verdict = Verdict {
         first_diff: None,
         first_alert: None,
     };
-    for at in 0..cycles + MORE {
+    // The delay, and one cycle in which what was found last is told.
+    let more = u64::from(clean.delay()) + 1;
+    for at in 0..cycles + more {
         let shown = clean.step();
         let flipped = turn(faulty, flip);
         verdict.note(at, at < cycles, &shown, &flipped);

@@ -1,6 +1,7 @@
 use crate::{Twin, Verdict, inject, twin};
 use ibx_elf::{Ram, load};
 use ibx_isa::{Alerts, MulKind, View};
+use ibx_lockstep::Delay;
 use ibx_plan::{Flip, Plan, Site};
 use ibx_soc::{Config, Soc};
 use std::alloc::Global;
@@ -41,8 +42,8 @@ const RAM: Ram = Ram {
 };
 
 fn verdict(rt: &impl Abort, alloc: Global, flip: &Flip, cycles: u64) -> Verdict {
-    if !flip.site.fits(RAM.size / 4) || flip.cycle >= cycles || cycles > 1_000_000_000 {
-        panic!(rt; "a flip of the run");
+    if flip.cycle >= cycles || cycles > 1_000_000_000 {
+        panic!(rt; "a cycle of the run");
     }
     let Ok(image) = load(&FILE, RAM) else {
         panic!(rt; "a well-formed file");
@@ -51,9 +52,13 @@ fn verdict(rt: &impl Abort, alloc: Global, flip: &Flip, cycles: u64) -> Verdict 
     let config = Config {
         ram: RAM,
         mul: MulKind::Fast,
+        delay: Delay::Two,
     };
     let mut clean = Soc::new(alloc, &image, &config, &plan).expect(rt, "memory");
     let mut faulty = Soc::new(alloc, &image, &config, &plan).expect(rt, "memory");
+    if !flip.site.fits(RAM.size / 4, clean.delay()) {
+        panic!(rt; "a bit of the system");
+    }
     inject(&mut clean, &mut faulty, flip, cycles)
 }
 
@@ -70,7 +75,7 @@ fn verdicts_of_three_flips(rt: HostRuntime) {
             },
             5,
             Some(4),
-            Some((6, Alerts::INTERNAL)),
+            Some((7, Alerts::INTERNAL)),
         ),
         (
             4,
@@ -80,7 +85,7 @@ fn verdicts_of_three_flips(rt: HostRuntime) {
             },
             10,
             None,
-            Some((4, Alerts::INTERNAL)),
+            Some((5, Alerts::INTERNAL)),
         ),
         (3, Site::Reg { n: 31, bit: 0 }, 10, None, None),
     ];
@@ -113,6 +118,7 @@ fn told(
     let config = Config {
         ram: RAM,
         mul: MulKind::Fast,
+        delay: Delay::Two,
     };
     let mut a = Soc::new(alloc, &a, &config, &plan).expect(rt, "memory");
     let mut b = Soc::new(alloc, &b, &config, &plan).expect(rt, "memory");

@@ -158,3 +158,8 @@ same_bus-refl a =
 -- where the comparator tells nothing, the bus is the same
 pub same_bus_agreed : (a b : Out) → agree a b ≡ true → same_bus a b ≡ true
 same_bus_agreed a b e = ap (λ (x : Out). same_bus a x) (sym (same_compared a b e)) ∙ same_bus-refl a
+
+-- an output agrees with itself in all compared wires
+pub agree-refl : (a : Out) → agree a a ≡ true
+unfolding agree
+agree-refl a = simp (beq-refl, number-refl)

@@ -1,5 +1,5 @@
 -- The system at reset: every word that isn't RAM's is the codeword of 0.
-use Rattle.std.proofs.Common.{◌≡◌, ℕ, ◌^◌, ◌<◌, false, List, map, None, refl, arith}
+use Rattle.std.proofs.Common.{◌≡◌, ℕ, ◌^◌, ◌<◌, ◌≤◌, false, List, length, map, None, refl, arith}
 use Rattle.std.specs.Prelude.{All, replicate}
 use Rattle.std.proofs.lemmas.List.{length-replicate}
 use Rattle.std.proofs.lemmas.List.Elements.{All-map, All-replicate, All-weaker}
@@ -11,7 +11,7 @@ use Rattle.ibx_icache.specs.WordPort.{is_bad_tag, is_bad_word}
 use Rattle.ibx_core.specs.Wires.{InWires as In, OutWires as Out}
 use Rattle.ibx_core.proofs.Codewords.{encoded_tag, encoded_word}
 use Rattle.ibx_flips.specs.Core.{Parts}
-use Rattle.ibx_flips.specs.System.{Place, Settings}
+use Rattle.ibx_flips.specs.System.{Place, Settings, Whole}
 use Rattle.ibx_flips.specs.Flips.{Codewords, IsFirst}
 
 -- the words round the cores: each word of RAM has its codeword, and the ports have had no request
@@ -56,8 +56,21 @@ codewords_at_reset settings words base iwaits dwaits all =
       pending = refl;
     }
 
--- equal cores with nothing delayed are a first state, whatever the delayed wires are
-pub first_at_reset : {S : Type 0} (p : Parts S) (core : S) (older newer : In × Out) (place : Place) → place.cycle ≡ 0
-    → Codewords place
-    → IsFirst p (record { main = core; shadow = core; older = older; newer = newer; age = 0; place = place })
-first_at_reset p core older newer place cycle words = record { cores = refl; age = refl; cycle = cycle; words = words }
+-- a system of equal cores where no pair waits yet and nothing was found
+abbrev pub system_at_reset : {S : Type 0} → S → List (In × Out) → ℕ → Place → Whole S
+system_at_reset core delayed delay place =
+    record { main = core; shadow = core; delayed = delayed; delay = delay; age = 0; told = false; place = place }
+
+-- it is a first state, whatever the delayed wires are
+pub first_at_reset : {S : Type 0} (p : Parts S) (core : S) (delayed : List (In × Out)) (delay : ℕ) (place : Place)
+    → 1 ≤ delay → length delayed ≡ delay → place.cycle ≡ 0 → Codewords place
+    → IsFirst p (system_at_reset core delayed delay place)
+first_at_reset p core delayed delay place some full cycle words = record {
+  cores = refl;
+  some = some;
+  full = full;
+  age = refl;
+  untold = refl;
+  cycle = cycle;
+  words = words;
+}

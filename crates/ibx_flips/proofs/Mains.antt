@@ -1,17 +1,19 @@
--- Another core in main's place: the runs agree until main's compared wires differ, and two cycles later this is told.
-use Rattle.std.proofs.Common.{Bool, true, false, ◌≡◌, ◌⊎◌, ℕ, zero, suc, ◌+◌, min, inl, inr, refl, ap, subst, sym}
-use Rattle.std.proofs.Common.{◌∙◌, arith}
-use Rattle.std.specs.Prelude.{◌==◌, nat_le, if◌then◌else◌}
-use Rattle.std.proofs.lemmas.Bool.{cases_Bool, not_from_true, or_right}
+-- Another core in main's place: the runs agree until main's compared wires differ, and this is told the delay plus one
+-- cycles later.
+use Rattle.std.proofs.Common.{Bool, true, false, ◌≡◌, ◌⊎◌, ℕ, zero, suc, ◌+◌, ◌-◌, ◌≤◌, [], inl, inr, refl, ap, subst}
+use Rattle.std.proofs.Common.{sym, ◌∙◌, arith}
+use Rattle.std.specs.Prelude.{◌==◌}
+use Rattle.std.proofs.lemmas.Bool.{cases_Bool, not_from_true}
 use Rattle.ibx_core.specs.Wires.{InWires as In, OutWires as Out, agree}
 use Rattle.ibx_core.specs.Core.{reads_in}
-use Rattle.ibx_flips.specs.Core.{Parts, CoreLaws, is_alert}
-use Rattle.ibx_flips.specs.System.{Whole, Place, next, settle, output_of, same_bus, alarm, is_told, look, output}
+use Rattle.ibx_flips.specs.Core.{Parts, CoreLaws}
+use Rattle.ibx_flips.specs.System.{Whole, Place, next, settle, output_of, same_bus, look, output}
 use Rattle.ibx_flips.specs.System.{input, with_grants, shown, changed}
 use Rattle.ibx_plan.specs.declared.site.Site.TheVariants as site
 use Rattle.ibx_flips.specs.Flips.{delay_flip, flip, parted, run}
 use Rattle.ibx_flips.proofs.Compare.{same_compared, same_bus-refl, same_bus_agreed}
 use Rattle.ibx_flips.proofs.Runs.{Keeps, Goes, Soon}
+use Rattle.ibx_flips.proofs.Follows.{Awaits, Follows, given, joined, nearer, told_after}
 
 module _ {S : Type 0} (p : Parts S) (laws : CoreLaws p) where
   -- ---- what the wires alone decide
@@ -52,136 +54,96 @@ module _ {S : Type 0} (p : Parts S) (laws : CoreLaws p) where
         | inr apart ↦ apart
       ]
 
-  -- ---- main is as its shadow will be
-
-  -- by the age of the delayed pairs: the shadow becomes what main is when it has had the inputs that wait for it
-  pub data InStep (w : Whole S) : Type 0 where
-    -- no input waits: main is the shadow
-    none : w.age ≡ 0 → w.main ≡ w.shadow → InStep w
-    -- one input waits: main is the shadow after it
-    one : w.age ≡ 1 → w.main ≡ p.leaves w.shadow w.newer.0 → InStep w
-    -- two inputs wait: main is the shadow after the older one and then the newer one
-    two : w.age ≡ 2 → w.main ≡ p.leaves (p.leaves w.shadow w.older.0) w.newer.0 → InStep w
-
-  -- a step keeps this
-  pub in_step_next : (w : Whole S) → InStep w → InStep (next p w)
-  unfolding next
-  in_step_next w (none a m) = one (rw a refl) (rw a (ap (λ (s : S). p.leaves s (input p w.place w.main)) m))
-  in_step_next w (one a m) = two (rw a refl) (rw a (ap (λ (s : S). p.leaves s (input p w.place w.main)) m))
-  in_step_next w (two a m) = two (rw a refl) (rw a (ap (λ (s : S). p.leaves s (input p w.place w.main)) m))
-
   -- ---- the relation
 
-  -- the same system with another main, and with other delayed outputs
-  abbrev pub other_main : Whole S → S → Out → Out → Whole S
-  other_main w s a b = record w { main = s; older = (w.older.0, a); newer = (w.newer.0, b) }
+  -- the second system has the same words, and its shadow comes to the first system's main by the pairs that wait: its
+  -- own main may be any core
+  pub record Mains (d : ℕ) (w v : Whole S) : Type 0 where
+    -- the same words
+    pub place : w.place ≡ v.place
+    -- the second system's shadow is d cycles behind
+    pub behind : v.delay ≡ d
+    -- at least one
+    pub some : 1 ≤ d
+    -- by d pairs it becomes what the first system's main is
+    pub comes : Awaits p laws w.main d [] v
 
-  -- the second system has another main and other delayed outputs
-  pub record Mains (w v : Whole S) : Type 0 where
-    -- the first system's shadow follows its main
-    pub step : InStep w
-    -- the second system's main, which may be any core
-    pub main : S
-    -- the output in the second system's older pair
-    pub older : Out
-    -- the output in its newer pair
-    pub newer : Out
-    -- all else is the first system's: the shadow, the inputs that wait, the age and the words
-    pub is : v ≡ other_main w main older newer
+  -- the same where the pairs that wait are counted down to the next step
+  one_less : (d : ℕ) (w v : Whole S) → Mains d w v → Awaits p laws w.main (suc (d - 1)) [] v
+  one_less d w v r =
+      let e : d ≡ suc (d - 1) = omega (arith, r.some) in subst (λ n. Awaits p laws w.main n [] v) e r.comes
 
-  -- the system with main s, two cycles after main's place was taken
-  later_shadow : (w : Whole S) (s : S) (a b : Out) → InStep w → (next p (next p (other_main w s a b))).shadow ≡ w.main
-  unfolding next
-  later_shadow w s a b (none e m) = rw e (sym m)
-  later_shadow w s a b (one e m) = rw e (sym m)
-  later_shadow w s a b (two e m) = rw e (sym m)
-
-  -- and its age, and the pair that is compared then
-  later_age : (w : Whole S) (s : S) (a b : Out) → InStep w → (next p (next p (other_main w s a b))).age ≡ 2
-  unfolding next
-  later_age w s a b (none e m) = rw e refl
-  later_age w s a b (one e m) = rw e refl
-  later_age w s a b (two e m) = rw e refl
-
-  -- the pair that is compared two cycles later
-  later_older : (w : Whole S) (s : S) (a b : Out)
-      → (next p (next p (other_main w s a b))).older ≡ (input p w.place s, output p w.place s)
-  unfolding next
-  later_older w s a b = refl
-
-  -- a shadow whose output for the delayed input differs from the delayed output is told
-  told_by : (x : Whole S) (r : S) (i : In) (o : Out) → x.age ≡ 2 → x.shadow ≡ r → x.older ≡ (i, o)
-      → agree (p.gives r i) o ≡ false → alarm p x ≡ true
-  told_by x r i o age shadow older h =
-      let differs : agree (p.gives x.shadow x.older.0) x.older.1 ≡ false =
-      subst (λ (y : S). agree (p.gives y x.older.0) x.older.1 ≡ false) (sym shadow)
-      (subst (λ (y : In × Out). agree (p.gives r y.0) y.1 ≡ false) (sym older) h) in
-      or_right (is_alert (output_of p x)) (is_told p x) (rw (age, differs) refl)
-
-  -- a difference of the mains is told two cycles later
-  told_later : (w : Whole S) (s : S) (a b : Out) → InStep w
-      → agree (output p w.place w.main) (output p w.place s) ≡ false → Soon p (other_main w s a b)
+  -- a difference of the mains is told d + 1 cycles later
+  told_later : (d : ℕ) (w v : Whole S) → Mains d w v
+      → agree (output p v.place w.main) (output p v.place v.main) ≡ false → Soon p (d + 1) v
   unfolding run
-  told_later w s a b step h = (
-    2,
-    omega arith,
-    told_by (next p (next p (other_main w s a b))) w.main (input p w.place s) (output p w.place s)
-        (later_age w s a b step) (later_shadow w s a b step) (later_older w s a b) (still_differs w.place w.main s h),
+  told_later d w v r h = (
+    suc (suc (d - 1)),
+    omega (arith, r.some),
+    told_after p laws (d - 1) w.main (input p v.place v.main) (output p v.place v.main) [] (next p v)
+        (nearer p laws w.main (d - 1) [] v (one_less d w v r)) (still_differs v.place w.main v.main h),
   )
 
-  -- the same input and the same words
-  rebuilt : (s shadow : S) (older : In × Out) (age : ℕ) (i j : In) (o : Out) (e f : Place) → i ≡ j → e ≡ f
-      → (let x : Whole S =
-      record { main = s; shadow = shadow; older = older; newer = (i, o); age = age; place = e } in x)
-      ≡ record { main = s; shadow = shadow; older = older; newer = (j, o); age = age; place = f }
-  rebuilt s shadow older age i j o e f x y =
-      λ t. record { main = s; shadow = shadow; older = older; newer = (x t, o); age = age; place = y t }
-
   -- where the outputs agree, the bus is the same and the relation goes on
-  goes_on : (w : Whole S) (s : S) (a b : Out) → InStep w → agree (output p w.place w.main) (output p w.place s) ≡ true
-      → Goes p Mains w (other_main w s a b)
+  goes_on : (d : ℕ) (w v : Whole S) → Mains d w v
+      → agree (output p v.place w.main) (output p v.place v.main) ≡ true → Goes p (Mains d) w v
   unfolding next
-  goes_on w s a b step h = record {
-    bus = same_bus_agreed (output p w.place w.main) (output p w.place s) h;
-    after = record {
-      step = in_step_next w step;
-      main = p.leaves s (input p w.place s);
-      older = b;
-      newer = output p w.place s;
-      is = rebuilt (p.leaves s (input p w.place s)) (if nat_le 2 w.age then p.leaves w.shadow w.older.0 else w.shadow)
-          (w.newer.0, b) (min (w.age + 1) 2)
-          (input p w.place s) (input p w.place w.main) (output p w.place s)
-          (settle p w.place (output p w.place s)) (settle p w.place (output p w.place w.main))
-          (sym (inputs_agree w.place w.main s h))
-          (sym (settled w.place (output p w.place w.main) (output p w.place s) h));
+  goes_on d w v r h =
+      let i : In = input p v.place v.main in
+      let o : Out = output p v.place v.main in
+      let same : input p v.place w.main ≡ i = inputs_agree v.place w.main v.main h in
+      let own : p.gives w.main i ≡ output p v.place w.main =
+      ap (p.gives w.main) (sym same) ∙ given p laws v.place w.main in
+      let agrees : agree (p.gives w.main i) o ≡ true = ap (λ (x : Out). agree x o) own ∙ h in
+      let e : suc (d - 1) ≡ d = omega (arith, r.some) in
+      let here : input p w.place w.main ≡ i = ap (λ (q : Place). input p q w.main) r.place ∙ same in
+      let more : Awaits p laws (p.leaves w.main i) d [] (next p v) =
+      subst (λ n. Awaits p laws (p.leaves w.main i) n [] (next p v)) e
+      (joined p laws w.main (d - 1) i o (next p v)
+      (nearer p laws w.main (d - 1) [] v (one_less d w v r)) agrees) in
+      record {
+        bus = subst (λ (q : Place). same_bus (output p q w.main) o ≡ true) (sym r.place)
+            (same_bus_agreed (output p v.place w.main) o h);
+        after = record {
+          place = ap (λ (q : Place). settle p q (output p q w.main)) r.place
+              ∙ settled v.place (output p v.place w.main) o h;
+          behind = r.behind;
+          some = r.some;
+          comes = subst (λ (x : In). Awaits p laws (p.leaves w.main x) d [] (next p v)) (sym here) more;
+        };
+      }
+
+  -- a step keeps the relation, or an alert comes soon
+  pub mains_keep : (d : ℕ) → Keeps p (d + 1) (Mains d)
+  mains_keep d w v r =
+      elim (cases_Bool (agree (output p v.place w.main) (output p v.place v.main))) [
+        | inl alike ↦ inl (goes_on d w v r alike)
+        | inr apart ↦ inr (told_later d w v r apart)
+      ]
+
+  -- another core in main's place leaves such a system, and so does a flip in main
+  pub replaced_start : (d : ℕ) (w : Whole S) (other : S) → Follows p laws d w → Mains d w (record w { main = other })
+  replaced_start d w other f = record {
+    place = refl;
+    behind = f.behind;
+    some = f.some;
+    comes = record {
+      idle = f.comes.idle;
+      waiting = f.comes.waiting;
+      is = f.comes.is;
+      count = f.comes.count;
+      age = f.comes.age;
+      comes = f.comes.comes;
     };
   }
 
-  -- by whether the outputs agree
-  mains_at : (w : Whole S) (s : S) (a b : Out) → InStep w
-      → Goes p Mains w (other_main w s a b) ⊎ Soon p (other_main w s a b)
-  mains_at w s a b step =
-      elim (cases_Bool (agree (output p w.place w.main) (output p w.place s))) [
-        | inl alike ↦ inl (goes_on w s a b step alike)
-        | inr apart ↦ inr (told_later w s a b step apart)
-      ]
-
-  -- a step keeps the relation, or an alert comes soon
-  pub mains_keep : Keeps p Mains
-  mains_keep w v r = subst (λ (x : Whole S). Goes p Mains w x ⊎ Soon p x) (sym r.is)
-      (mains_at w r.main r.older r.newer r.step)
-
-  -- another core in main's place leaves such a system, and so does a flip in main
-  pub replaced_start : (w : Whole S) (other : S) → InStep w → Mains w (record w { main = other })
-  replaced_start w other step = record { step = step; main = other; older = w.older.1; newer = w.newer.1; is = refl }
-
   -- a flip in main leaves such a system
-  pub mains_start : (field bit : ℕ) (w : Whole S) → InStep w → Mains w (flip p (site.Main field bit) w)
+  pub mains_start : (d field bit : ℕ) (w : Whole S) → Follows p laws d w
+      → Mains d w (flip p (site.Main field bit) w)
   unfolding flip
-  mains_start field bit w step =
-      record { step = step; main = p.flip_field field bit w.main; older = w.older.1; newer = w.newer.1; is = refl }
+  mains_start d field bit w f = replaced_start d w (p.flip_field field bit w.main) f
 
-  -- ---- the shadow, the delayed pairs and the age: nothing reads them but the comparator
+  -- ---- the shadow, the delayed pairs, the age and the kept finding: nothing reads them but the comparator
 
   -- the same main with the same words round it
   pub record Sides (w v : Whole S) : Type 0 where
@@ -205,8 +167,8 @@ module _ {S : Type 0} (p : Parts S) (laws : CoreLaws p) where
       }
 
   -- so a step keeps the relation
-  pub sides_keep : Keeps p Sides
-  sides_keep w v r = inl (sides_go w v r)
+  pub sides_keep : (most : ℕ) → Keeps p most Sides
+  sides_keep most w v r = inl (sides_go w v r)
 
   -- so the bus never differs
   pub sides_agree : (n : ℕ) (w v : Whole S) → Sides w v → parted p w v n ≡ false
@@ -219,13 +181,13 @@ module _ {S : Type 0} (p : Parts S) (laws : CoreLaws p) where
   unfolding flip
   shadow_start field bit w = record { main = refl; place = refl }
 
-  -- and so does one in the delayed pairs or the age
-  delay_side : (age oldest : Bool) (wire bit : ℕ) (w : Whole S) → Sides w (delay_flip p age oldest wire bit w)
-  delay_side true oldest wire bit w = record { main = refl; place = refl }
-  delay_side false true wire bit w = record { main = refl; place = refl }
-  delay_side false false wire bit w = record { main = refl; place = refl }
+  -- and so does one in the delayed pairs, the age or the kept finding
+  delay_side : (age told : Bool) (slot wire bit : ℕ) (w : Whole S) → Sides w (delay_flip p age told slot wire bit w)
+  delay_side true told slot wire bit w = record { main = refl; place = refl }
+  delay_side false true slot wire bit w = record { main = refl; place = refl }
+  delay_side false false slot wire bit w = record { main = refl; place = refl }
 
-  -- a flip of a delayed wire or of the age leaves such a system
+  -- a flip of a delayed wire, of the age or of the kept finding leaves such a system
   pub delay_start : (slot wire bit : ℕ) (w : Whole S) → Sides w (flip p (site.Delay slot wire bit) w)
   unfolding flip
-  delay_start slot wire bit w = delay_side (wire == 36) (slot == 0) wire bit w
+  delay_start slot wire bit w = delay_side (wire == 36) (wire == 37) slot wire bit w

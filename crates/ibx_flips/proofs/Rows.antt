@@ -1,5 +1,5 @@
 -- Runs of the system worked out: when events come, and what comes of a flip.
-use Rattle.std.proofs.Common.{◌≡◌, ℕ, zero, suc, ◌+◌, List, [], ◌∷◌, ◌++◌, Option, Some, None, refl}
+use Rattle.std.proofs.Common.{◌≡◌, ℕ, zero, suc, ◌+◌, false, List, [], ◌∷◌, ◌++◌, Option, Some, None, refl}
 use Rattle.std.specs.Prelude.{replicate}
 use Rattle.ibx_bits.specs.Bytes as Bytes
 use Rattle.ibx_isa.specs.Alu as Alu
@@ -125,20 +125,31 @@ flips = 0
 
 -- ---- systems at reset
 
--- the first state with this entry, these words in RAM from 0x00100000 on, these waits, and these changes of the
--- interrupt lines
-loaded : ℕ → List ℕ → List Wait → List Wait → List Change → Whole State
+-- the first state with this delay, this entry, these words in RAM from 0x00100000 on, these waits, and these changes
+-- of the interrupt lines
+loaded_with : ℕ → ℕ → List ℕ → List Wait → List Wait → List Change → Whole State
 unfolding system
-loaded entry ram iwaits dwaits changes = record {
+loaded_with delay entry ram iwaits dwaits changes = record {
   main = Fields.reset_of entry;
   shadow = Fields.reset_of entry;
-  older = (Wires.quiet_in, Wires.quiet_out);
-  newer = (Wires.quiet_in, Wires.quiet_out);
+  delayed = replicate delay (Wires.quiet_in, Wires.quiet_out);
+  delay = delay;
   age = 0;
+  told = false;
   place = place_at_reset (record { mul = 0; changes = changes }) ram 0x100000 iwaits dwaits;
 }
 
--- a program at 0x00100080, its entry, without waits and interrupts
+-- the same with a delay of two cycles
+loaded : ℕ → List ℕ → List Wait → List Wait → List Change → Whole State
+unfolding loaded_with
+loaded entry ram iwaits dwaits changes = loaded_with 2 entry ram iwaits dwaits changes
+
+-- a program at 0x00100080, its entry, with this delay, without waits and interrupts
+program_with : ℕ → List ℕ → Whole State
+unfolding loaded_with
+program_with delay code = loaded_with delay 0x100080 (replicate 32 0 ++ code ++ replicate 32 0) [] [] []
+
+-- the same with a delay of two cycles
 program : List ℕ → Whole State
 unfolding loaded
 program code = loaded 0x100080 (replicate 32 0 ++ code ++ replicate 32 0) [] [] []
@@ -260,16 +271,31 @@ flip_at cycle place = record { cycle = cycle; site = place }
 outcome : Whole State → Flip → ℕ → Option ℕ × Option ℕ
 outcome w f cycles = (first_diff core_parts w f cycles, first_alert core_parts w f cycles)
 
--- bit 15 of id_word: the store takes its address from x7 in place of x6. The alert comes two cycles later, so the
+-- bit 15 of id_word: the store takes its address from x7 in place of x6. The alert comes three cycles later, so the
 -- bound is met
-main_field : outcome (program halting) (flip_at 4 (site.Main 20 15)) 5 ≡ (Some 4, Some 6)
+main_field : outcome (program halting) (flip_at 4 (site.Main 20 15)) 5 ≡ (Some 4, Some 7)
 unfolding flips program halting flip_at outcome
 main_field = refl
 
+-- the same with a delay of one cycle, and of four: the bound is met too
+main_field_1 : outcome (program_with 1 halting) (flip_at 4 (site.Main 20 15)) 5 ≡ (Some 4, Some 6)
+unfolding flips program_with halting flip_at outcome
+main_field_1 = refl
+
+-- with the longest delay
+main_field_4 : outcome (program_with 4 halting) (flip_at 4 (site.Main 20 15)) 5 ≡ (Some 4, Some 9)
+unfolding flips program_with halting flip_at outcome
+main_field_4 = refl
+
 -- the same bit of the shadow
-shadow_field : outcome (program halting) (flip_at 4 (site.Shadow 20 15)) 10 ≡ (None, Some 4)
+shadow_field : outcome (program halting) (flip_at 4 (site.Shadow 20 15)) 10 ≡ (None, Some 5)
 unfolding flips program halting flip_at outcome
 shadow_field = refl
+
+-- the kept finding: an alert at once
+told_bit : outcome (program halting) (flip_at 3 (site.Delay 0 37 0)) 10 ≡ (None, Some 3)
+unfolding flips program halting flip_at outcome
+told_bit = refl
 
 -- a register that isn't read, a check bit and a payload bit of registers that are
 unread_register : outcome (program halting) (flip_at 3 (site.Reg 31 0)) 10 ≡ (None, None)

@@ -25,19 +25,19 @@ module _ {S : Type 0} (p : Parts S) where
   answer_cycle true e f g x y = x
   answer_cycle false e f g x y = y
 
-  -- and one of a delayed wire or the age
-  delay_cycle : (age oldest : Bool) (wire bit : ℕ) (w : Whole S)
-      → (delay_flip p age oldest wire bit w).place.cycle ≡ w.place.cycle
-  delay_cycle true oldest wire bit w = refl
-  delay_cycle false true wire bit w = refl
-  delay_cycle false false wire bit w = refl
+  -- and one of a delayed wire, of the age or of the kept finding
+  delay_cycle : (age told : Bool) (slot wire bit : ℕ) (w : Whole S)
+      → (delay_flip p age told slot wire bit w).place.cycle ≡ w.place.cycle
+  delay_cycle true told slot wire bit w = refl
+  delay_cycle false true slot wire bit w = refl
+  delay_cycle false false slot wire bit w = refl
 
   -- and so each flip
   pub cycle_flipped : (x : Site) (w : Whole S) → (flip p x w).place.cycle ≡ w.place.cycle
   unfolding flip place_flip
   cycle_flipped (site.Main field bit) w = refl
   cycle_flipped (site.Shadow field bit) w = refl
-  cycle_flipped (site.Delay slot wire bit) w = delay_cycle (wire == 36) (slot == 0) wire bit w
+  cycle_flipped (site.Delay slot wire bit) w = delay_cycle (wire == 36) (wire == 37) slot wire bit w
   cycle_flipped (site.Reg n bit) w = refl
   cycle_flipped (site.Tag set way bit) w = refl
   cycle_flipped (site.Line set way half bit) w = refl
@@ -131,9 +131,9 @@ module _ {S : Type 0} (p : Parts S) where
 
   -- ---- a relation between two runs
 
-  -- an alert in this cycle or one of the next two
-  abbrev pub Soon : Whole S → Type 0
-  Soon v = (a : ℕ) × (a ≤ 2) × (alarm p (run p v None a) ≡ true)
+  -- an alert in this cycle or one of so many next ones
+  abbrev pub Soon : ℕ → Whole S → Type 0
+  Soon most v = (a : ℕ) × (a ≤ most) × (alarm p (run p v None a) ≡ true)
 
   -- the bus is the same in this cycle, and the relation holds after it
   pub record Goes (R : Whole S → Whole S → Type 0) (w v : Whole S) : Type 0 where
@@ -143,22 +143,22 @@ module _ {S : Type 0} (p : Parts S) where
     pub after : R (next p w) (next p v)
 
   -- a step keeps the relation with the bus the same, or an alert comes soon
-  abbrev pub Keeps : (Whole S → Whole S → Type 0) → Type 0
-  Keeps R = (w v : Whole S) → R w v → Goes R w v ⊎ Soon v
+  abbrev pub Keeps : ℕ → (Whole S → Whole S → Type 0) → Type 0
+  Keeps most R = (w v : Whole S) → R w v → Goes R w v ⊎ Soon most v
 
-  -- under such a relation a difference of the bus has an alert at most two cycles later
-  pub reach : (R : Whole S → Whole S → Type 0) → Keeps R → (n : ℕ) (w v : Whole S) → R w v
+  -- under such a relation a difference of the bus has an alert at most so many cycles later
+  pub reach : (most : ℕ) (R : Whole S → Whole S → Type 0) → Keeps most R → (n : ℕ) (w v : Whole S) → R w v
       → not (same_bus (output_of p (run p w None n)) (output_of p (run p v None n))) ≡ true
-      → (a : ℕ) × (a ≤ n + 2) × (alarm p (run p v None a) ≡ true)
+      → (a : ℕ) × (a ≤ n + most) × (alarm p (run p v None a) ≡ true)
   unfolding run
-  reach R keeps zero w v r e =
+  reach most R keeps zero w v r e =
       elim (keeps w v r) [
         | inl g ↦ let same = g.bus in let other = not-true (same_bus (output_of p w) (output_of p v)) e in cc
         | inr s ↦ (s.0, omega (arith, s.1), s.2)
       ]
-  reach R keeps (suc n) w v r e =
+  reach most R keeps (suc n) w v r e =
       elim (keeps w v r) [
-        | inl g ↦ let x = reach R keeps n (next p w) (next p v) g.after e in (suc x.0, omega (arith, x.1), x.2)
+        | inl g ↦ let x = reach most R keeps n (next p w) (next p v) g.after e in (suc x.0, omega (arith, x.1), x.2)
         | inr s ↦ (s.0, omega (arith, s.1), s.2)
       ]
 
@@ -186,30 +186,37 @@ module _ {S : Type 0} (p : Parts S) where
   alarms_behind f n w e = ap (alarm p) (behind f f.cycle n w (omega arith))
 
   -- each difference has its alert, where such a relation holds at the flip
-  answered : (f : Flip) (w : Whole S) → w.place.cycle ≡ 0 → (R : Whole S → Whole S → Type 0) → Keeps R
-      → R (run p w None f.cycle) (flip p f.site (run p w None f.cycle))
-      → Answered (differs p w f) (alarms p w f)
-  answered f w e R keeps r d h =
+  answered : (most : ℕ) (f : Flip) (w : Whole S) → w.place.cycle ≡ 0 → (R : Whole S → Whole S → Type 0)
+      → Keeps most R → R (run p w None f.cycle) (flip p f.site (run p w None f.cycle))
+      → Answered most (differs p w f) (alarms p w f)
+  answered most f w e R keeps r d h =
       elim (cases_lt d f.cycle) [
         | inl early ↦ let no_difference = same_ahead f d w e early in cc
         | inr late ↦
             let n = d - f.cycle in
             let is : f.cycle + n ≡ d = omega arith in
             let there = subst (λ k. differs p w f k ≡ true) (sym is) h in
-            let x = reach R keeps n (run p w None f.cycle) (flip p f.site (run p w None f.cycle)) r
+            let x = reach most R keeps n (run p w None f.cycle) (flip p f.site (run p w None f.cycle)) r
             (sym (differs_behind f n w e) ∙ there) in
             (f.cycle + x.0, omega (arith, x.1), alarms_behind f x.0 w e ∙ x.2)
       ]
 
   -- two runs without a flip, under such a relation
-  pub noticed_from : (R : Whole S → Whole S → Type 0) → Keeps R → (w v : Whole S) → R w v
-      → (cycles : ℕ) → Bounded (first_from cycles (parted p w v) 0)
-      (first_from (cycles + 2) (λ n. alarm p (run p v None n)) 0)
-  noticed_from R keeps w v r cycles =
-      bounded cycles (parted p w v) (λ n. alarm p (run p v None n)) (λ d h. reach R keeps d w v r h)
+  pub noticed_from : (most : ℕ) (R : Whole S → Whole S → Type 0) → Keeps most R → (w v : Whole S) → R w v
+      → (cycles window : ℕ) → cycles + most ≤ window
+      → Bounded most (first_from cycles (parted p w v) 0) (first_from window (λ n. alarm p (run p v None n)) 0)
+  noticed_from most R keeps w v r cycles window long =
+      bounded most cycles window long (parted p w v) (λ n. alarm p (run p v None n))
+      (λ d h. reach most R keeps d w v r h)
 
-  -- and so the flip is noticed
-  pub noticed_by : (f : Flip) (w : Whole S) → w.place.cycle ≡ 0 → (R : Whole S → Whole S → Type 0) → Keeps R
-      → R (run p w None f.cycle) (flip p f.site (run p w None f.cycle))
+  -- where each difference has its alert in time, the flip is noticed
+  pub noticed_where : (f : Flip) (w : Whole S) → Answered (w.delay + 1) (differs p w f) (alarms p w f)
       → (cycles : ℕ) → Noticed p w f cycles
-  noticed_by f w e R keeps r cycles = bounded cycles (differs p w f) (alarms p w f) (answered f w e R keeps r)
+  noticed_where f w h cycles =
+      bounded (w.delay + 1) cycles (cycles + w.delay + 1) (omega arith) (differs p w f) (alarms p w f) h
+
+  -- and so it is under such a relation
+  pub noticed_by : (f : Flip) (w : Whole S) → w.place.cycle ≡ 0 → (R : Whole S → Whole S → Type 0)
+      → Keeps (w.delay + 1) R → R (run p w None f.cycle) (flip p f.site (run p w None f.cycle))
+      → (cycles : ℕ) → Noticed p w f cycles
+  noticed_by f w e R keeps r cycles = noticed_where f w (answered (w.delay + 1) f w e R keeps r) cycles

@@ -76,25 +76,28 @@ reached (suc n) test t a low high e =
     ]
 
 -- the bound, by the first alert
-bounded_at : (d : ℕ) (alert : Option ℕ) → (b : ℕ) × (alert ≡ Some b) × (b ≤ d + 2) → Bounded (Some d) alert
-bounded_at d None r = let e = r.1 in cc
-bounded_at d (Some a) r = let e = r.1 in let same : a ≡ r.0 = cc in omega (arith, r.2)
+bounded_at : (most d : ℕ) (alert : Option ℕ) → (b : ℕ) × (alert ≡ Some b) × (b ≤ d + most)
+    → Bounded most (Some d) alert
+bounded_at most d None r = let e = r.1 in cc
+bounded_at most d (Some a) r = let e = r.1 in let same : a ≡ r.0 = cc in omega (arith, r.2)
 
--- each difference has an alert at most two cycles later
-abbrev pub Answered : (ℕ → Bool) → (ℕ → Bool) → Type 0
-Answered differs alarms = (d : ℕ) → differs d ≡ true → (a : ℕ) × (a ≤ d + 2) × (alarms a ≡ true)
+-- each difference has an alert at most so many cycles later
+abbrev pub Answered : ℕ → (ℕ → Bool) → (ℕ → Bool) → Type 0
+Answered most differs alarms = (d : ℕ) → differs d ≡ true → (a : ℕ) × (a ≤ d + most) × (alarms a ≡ true)
 
 -- the bound, by the first difference
-bounded_by : (cycles : ℕ) (differs alarms : ℕ → Bool) → Answered differs alarms → (diff : Option ℕ)
-    → first_from cycles differs 0 ≡ diff → Bounded diff (first_from (cycles + 2) alarms 0)
-bounded_by cycles differs alarms h None e = tt
-bounded_by cycles differs alarms h (Some d) e =
+bounded_by : (most cycles window : ℕ) → cycles + most ≤ window → (differs alarms : ℕ → Bool)
+    → Answered most differs alarms → (diff : Option ℕ) → first_from cycles differs 0 ≡ diff
+    → Bounded most diff (first_from window alarms 0)
+bounded_by most cycles window long differs alarms h None e = tt
+bounded_by most cycles window long differs alarms h (Some d) e =
     let f = found cycles differs 0 d e in
     let x = h d f.passes in
-    let r = reached (cycles + 2) alarms 0 x.0 (omega arith) (omega (arith, f.inside, x.1)) x.2 in
-    bounded_at d (first_from (cycles + 2) alarms 0) (r.0, r.1, omega (arith, r.2, x.1))
+    let r = reached window alarms 0 x.0 (omega arith) (omega (arith, f.inside, x.1)) x.2 in
+    bounded_at most d (first_from window alarms 0) (r.0, r.1, omega (arith, r.2, x.1))
 
 -- where each difference has its alert, the first alert is in time
-pub bounded : (cycles : ℕ) (differs alarms : ℕ → Bool) → Answered differs alarms
-    → Bounded (first_from cycles differs 0) (first_from (cycles + 2) alarms 0)
-bounded cycles differs alarms h = bounded_by cycles differs alarms h (first_from cycles differs 0) refl
+pub bounded : (most cycles window : ℕ) → cycles + most ≤ window → (differs alarms : ℕ → Bool)
+    → Answered most differs alarms → Bounded most (first_from cycles differs 0) (first_from window alarms 0)
+bounded most cycles window long differs alarms h =
+    bounded_by most cycles window long differs alarms h (first_from cycles differs 0) refl

@@ -31,32 +31,33 @@ output_fits (suc (suc (suc (suc (suc zero))))) bit lt = (omega arith, lt)
 output_fits (suc (suc (suc (suc (suc (suc n)))))) bit lt = absurd (omega (arith, lt))
 
 -- a site that fits is a place of a system whose words have their counts
-pub fits_of : (x : Site) (e : Place) → Codewords e → site_fits (length e.memory.words) x ≡ true → Fits x e
+pub fits_of : (x : Site) (delay : ℕ) (e : Place) → Codewords e → site_fits (length e.memory.words) delay x ≡ true
+    → Fits x e
 unfolding site_fits ranges
-fits_of (site.Main field bit) e c h = tt
-fits_of (site.Shadow field bit) e c h = tt
-fits_of (site.Delay slot wire bit) e c h = tt
-fits_of (site.Reg n bit) e c h =
+fits_of (site.Main field bit) delay e c h = tt
+fits_of (site.Shadow field bit) delay e c h = tt
+fits_of (site.Delay slot wire bit) delay e c h = tt
+fits_of (site.Reg n bit) delay e c h =
     let a = in_ranges (ranged n 1 32) (ranged bit 0 39 ∷ []) h in
     let b = in_ranges (ranged bit 0 39) [] a.2 in
     (omega (arith, a.0), omega (arith, a.1, c.count.0), b.1)
-fits_of (site.Tag set way bit) e c h =
+fits_of (site.Tag set way bit) delay e c h =
     let a = in_ranges (ranged set 0 256) (ranged way 0 2 ∷ ranged bit 0 28 ∷ []) h in
     let b = in_ranges (ranged way 0 2) (ranged bit 0 28 ∷ []) a.2 in
     let d = in_ranges (ranged bit 0 28) [] b.2 in
     (omega (arith, a.1, b.1, c.count.1), d.1)
-fits_of (site.Line set way half bit) e c h =
+fits_of (site.Line set way half bit) delay e c h =
     let a = in_ranges (ranged set 0 256) (ranged way 0 2 ∷ ranged half 0 2 ∷ ranged bit 0 39 ∷ []) h in
     let b = in_ranges (ranged way 0 2) (ranged half 0 2 ∷ ranged bit 0 39 ∷ []) a.2 in
     let d = in_ranges (ranged half 0 2) (ranged bit 0 39 ∷ []) b.2 in
     let f = in_ranges (ranged bit 0 39) [] d.2 in
     (omega (arith, a.1, b.1, d.1, c.count.2), f.1)
-fits_of (site.Output wire bit) e c h =
+fits_of (site.Output wire bit) delay e c h =
     let a = in_ranges (ranged bit 0 (width_in outputs wire)) [] h in
     output_fits wire bit a.1
-fits_of (site.Answer port bit) e c h =
+fits_of (site.Answer port bit) delay e c h =
     let a = in_ranges (ranged port 0 2) (ranged bit 0 39 ∷ []) h in
     (a.1, (in_ranges (ranged bit 0 39) [] a.2).1)
-fits_of (site.Mem word bit) e c h =
+fits_of (site.Mem word bit) delay e c h =
     let a = in_ranges (ranged word 0 (length e.memory.words)) (ranged bit 0 39 ∷ []) h in
     (a.1, (in_ranges (ranged bit 0 39) [] a.2).1)

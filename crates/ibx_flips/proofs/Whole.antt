@@ -11,10 +11,12 @@ use Rattle.ibx_plan.specs.declared.site.Flip.{Flip}
 use Rattle.ibx_flips.specs.Flips.{Fits, IsFirst, is_side, is_word, Noticed, ReplacementNoticed, ToldByUse, Unseen}
 use Rattle.ibx_flips.specs.Flips.{AgreesTo, flip, run, differs, alarms, first_use, first_from, uses, uses_from}
 use Rattle.ibx_flips.specs.Flips.{marks_from, spot_of, marks_of}
-use Rattle.ibx_flips.proofs.Searches.{found, none_found, bounded}
-use Rattle.ibx_flips.proofs.Runs.{noticed_by, noticed_from, kept_run, same_ahead, differs_behind, alarms_behind}
-use Rattle.ibx_flips.proofs.Mains.{InStep, none, in_step_next, Mains, mains_keep, mains_start, replaced_start, Sides}
-use Rattle.ibx_flips.proofs.Mains.{sides_agree, sides_keep, shadow_start, delay_start}
+use Rattle.ibx_flips.proofs.Searches.{found, none_found}
+use Rattle.ibx_flips.proofs.Runs.{noticed_by, noticed_from, noticed_where, kept_run, same_ahead, differs_behind}
+use Rattle.ibx_flips.proofs.Runs.{alarms_behind}
+use Rattle.ibx_flips.proofs.Follows.{Follows, follows_first, follows_next}
+use Rattle.ibx_flips.proofs.Mains.{Mains, mains_keep, mains_start, replaced_start, Sides, sides_agree, sides_keep}
+use Rattle.ibx_flips.proofs.Mains.{shadow_start, delay_start}
 use Rattle.ibx_flips.proofs.Codewords.{Ready, ready_next}
 use Rattle.ibx_flips.proofs.Words.{Words, goes, told, follow, reg_start, tag_start, line_start, mem_start}
 use Rattle.ibx_flips.proofs.Words.{output_start, answer_start}
@@ -113,16 +115,16 @@ module _ {S : Type 0} (p : Parts S) (laws : CoreLaws p) where
 
     -- the bound, by the first use
     answer_by : (d : ℕ) → differs p w f d ≡ true → (u : Option ℕ) → first_from (suc d) (uses p w f) 0 ≡ u
-        → AgreesTo p w f (suc d) u → (a : ℕ) × (a ≤ d + 2) × (alarms p w f a ≡ true)
+        → AgreesTo p w f (suc d) u → (a : ℕ) × (a ≤ d + (w.delay + 1)) × (alarms p w f a ≡ true)
     answer_by d h None e a = let no_difference = a d (omega arith) in cc
     answer_by d h (Some u) e a = let x = found (suc d) (uses p w f) 0 u e in (u, omega (arith, x.inside), a.1)
 
     -- the flip of a word is noticed
     words_noticed : (cycles : ℕ) → Noticed p w f cycles
     words_noticed cycles =
-        bounded cycles (differs p w f) (alarms p w f)
+        noticed_where p f w
         (λ d h. answer_by d h (first_from (suc d) (uses p w f) 0) refl
-        (agrees_by (suc d) (first_from (suc d) (uses p w f) 0) refl))
+        (agrees_by (suc d) (first_from (suc d) (uses p w f) 0) refl)) cycles
 
   -- the flip of a word is told by its first use, and changes nothing before it
   pub told_by_use : (w : Whole S) (f : Flip) (cycles : ℕ) → IsFirst p w → Fits f.site w.place → ToldByUse p w f cycles
@@ -138,15 +140,19 @@ module _ {S : Type 0} (p : Parts S) (laws : CoreLaws p) where
   -- the flip of a site that nothing but the comparator reads
   side_noticed : (w : Whole S) (f : Flip) (cycles : ℕ) → IsFirst p w
       → Sides p laws (run p w None f.cycle) (flip p f.site (run p w None f.cycle)) → Noticed p w f cycles
-  side_noticed w f cycles i start = noticed_by p f w i.cycle (Sides p laws) (sides_keep p laws) start cycles
+  side_noticed w f cycles i start =
+      noticed_by p f w i.cycle (Sides p laws) (sides_keep p laws (w.delay + 1)) start cycles
+
+  -- in a run without a flip the shadow follows main
+  follows_at : (n : ℕ) (w : Whole S) → IsFirst p w → Follows p laws w.delay (run p w None n)
+  follows_at n w i = kept_run p (Follows p laws w.delay) (follows_next p laws w.delay) n w (follows_first p laws w i)
 
   -- by the site
   at_site : (x : Site) (c : ℕ) (w : Whole S) (cycles : ℕ) → IsFirst p w → Fits x w.place
       → Noticed p w (record { cycle = c; site = x }) cycles
   at_site (site.Main field bit) c w n i fits =
-      noticed_by p (record { cycle = c; site = site.Main field bit }) w i.cycle (Mains p laws) (mains_keep p laws)
-      (mains_start p laws field bit (run p w None c)
-      (kept_run p (InStep p laws) (in_step_next p laws) c w (none i.age i.cores))) n
+      noticed_by p (record { cycle = c; site = site.Main field bit }) w i.cycle (Mains p laws w.delay)
+      (mains_keep p laws w.delay) (mains_start p laws w.delay field bit (run p w None c) (follows_at c w i)) n
   at_site (site.Shadow field bit) c w n i fits =
       side_noticed w (record { cycle = c; site = site.Shadow field bit }) n i
       (shadow_start p laws field bit (run p w None c))
@@ -174,9 +180,9 @@ module _ {S : Type 0} (p : Parts S) (laws : CoreLaws p) where
       → ReplacementNoticed p w cycle other cycles
   replacement_noticed w cycle other cycles i =
       let clean = run p w None cycle in
-      noticed_from p (Mains p laws) (mains_keep p laws) clean (record clean { main = other })
-      (replaced_start p laws clean other
-      (kept_run p (InStep p laws) (in_step_next p laws) cycle w (none i.age i.cores))) cycles
+      noticed_from p (w.delay + 1) (Mains p laws w.delay) (mains_keep p laws w.delay) clean
+      (record clean { main = other }) (replaced_start p laws w.delay clean other (follows_at cycle w i)) cycles
+      (cycles + w.delay + 1) (omega arith)
 
   -- the flip of a site beside main and its words leaves the main and the words
   side_start : (x : Site) (w : Whole S) → is_side x ≡ true → Sides p laws w (flip p x w)

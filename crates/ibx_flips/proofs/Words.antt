@@ -8,7 +8,7 @@ use Rattle.ibx_core.specs.Wires.{InWires as In, OutWires as Out}
 use Rattle.ibx_icache.specs.WordPort.{is_bad_tag, is_bad_word}
 use Rattle.ibx_flips.specs.Core.{Parts, CoreLaws, heard, is_alert}
 use Rattle.ibx_flips.proofs.Bus.{flip_told, tag_flip_told}
-use Rattle.ibx_flips.specs.System.{Whole, Place, next, settle, output_of, same_bus, alarm, is_told, shown, changed}
+use Rattle.ibx_flips.specs.System.{Whole, Place, next, settle, output_of, same_bus, alarm, shown, changed}
 use Rattle.ibx_flips.specs.System.{flip_wire, look, output, input, igrant_of, dgrant_of, tag_index, line_index}
 use Rattle.ibx_flips.specs.System.{set_of, half_of}
 use Rattle.ibx_plan.specs.declared.site.Site.{Site}
@@ -266,7 +266,7 @@ module _ {S : Type 0} (p : Parts S) (laws : CoreLaws p) where
       let heard_bad = used_bad p (in_marks p k m w.place s) s (look p w.place s) (look p v.place s)
       (look_related k m s w.place v.place r.related) u in
       let alert : is_alert (output p v.place s) ≡ true = laws.told s (look p v.place s) heard_bad in
-      or_left (is_alert (output_of p v)) (is_told p v)
+      or_left (is_alert (output_of p v)) v.told
       (subst (λ (y : S). is_alert (output p v.place y) ≡ true) r.main alert)
 
   -- ---- many cycles without a use

@@ -1,7 +1,7 @@
 -- Flips, runs with one flip, and what is promised of them.
 use Rattle.std.specs.Prelude.{◌≡◌, ℕ, zero, suc, ◌+◌, ◌-◌, ◌<◌, ◌≤◌, ◌^◌, Bool, true, false, not, ◌&&◌, ◌||◌, nat_le}
-use Rattle.std.specs.Prelude.{◌==◌, if◌then◌else◌, List, All, length, slice_index, slice_set, Option, Some, None}
-use Rattle.std.specs.Prelude.{bit_xor}
+use Rattle.std.specs.Prelude.{◌==◌, if◌then◌else◌, List, [], ◌∷◌, All, length, slice_index, slice_set, Option, Some}
+use Rattle.std.specs.Prelude.{None, bit_xor}
 use Rattle.ibx_isa.specs.declared.bus.Req.{Req}
 use Rattle.ibx_plan.specs.declared.site.Site.{Site}
 use Rattle.ibx_plan.specs.declared.site.Site.TheVariants as site
@@ -22,7 +22,7 @@ is_word (site.Shadow field bit) = false
 is_word (site.Delay slot wire bit) = false
 is_word _ = true
 
--- whether it is in the shadow, in a delayed pair or in the age
+-- whether it is in the shadow, in a delayed pair, in the age or in the kept finding
 abbrev pub is_side : Site → Bool
 is_side (site.Shadow field bit) = true
 is_side (site.Delay slot wire bit) = true
@@ -53,18 +53,24 @@ place_flip (site.Answer port bit) e =
 place_flip (site.Mem word bit) e = record e { memory = memory_flip e.memory word bit }
 place_flip _ e = e
 
+-- a list with its n-th entry changed, counted from 0
+abbrev pub changed_at : {A : Type 0} → ℕ → (A → A) → List A → List A
+changed_at n change [] = []
+changed_at zero change (x ∷ xs) = change x ∷ xs
+changed_at (suc n) change (x ∷ xs) = x ∷ changed_at n change xs
+
 module _ {S : Type 0} (p : Parts S) where
-  -- a wire of a delayed pair, or the age
-  abbrev pub delay_flip : Bool → Bool → ℕ → ℕ → Whole S → Whole S
-  delay_flip true oldest wire bit w = record w { age = bit_xor w.age (2 ^ bit) }
-  delay_flip false true wire bit w = record w { older = p.flip_pair wire bit w.older }
-  delay_flip false false wire bit w = record w { newer = p.flip_pair wire bit w.newer }
+  -- of the delay's side: by whether the wire is the age, whether it is the kept finding, and the slot
+  abbrev pub delay_flip : Bool → Bool → ℕ → ℕ → ℕ → Whole S → Whole S
+  delay_flip true told slot wire bit w = record w { age = bit_xor w.age (2 ^ bit) }
+  delay_flip false true slot wire bit w = record w { told = not w.told }
+  delay_flip false false slot wire bit w = record w { delayed = changed_at slot (p.flip_pair wire bit) w.delayed }
 
   -- the system after a flip
   unfoldable pub flip : Site → Whole S → Whole S
   flip (site.Main field bit) w = record w { main = p.flip_field field bit w.main }
   flip (site.Shadow field bit) w = record w { shadow = p.flip_field field bit w.shadow }
-  flip (site.Delay slot wire bit) w = delay_flip (wire == 36) (slot == 0) wire bit w
+  flip (site.Delay slot wire bit) w = delay_flip (wire == 36) (wire == 37) slot wire bit w
   flip x w = record w { place = place_flip x w.place }
 
 -- 32 registers, 256 sets of two ways with two data words each, all words codewords, and no pending flip
@@ -238,13 +244,13 @@ module _ {S : Type 0} (p : Parts S) where
   abbrev pub alarms : Whole S → Flip → ℕ → Bool
   alarms w f n = alarm p (before_step w (Some f) n)
 
-  -- the first such cycle of a run, if there is one; alerts are looked for in two cycles more
+  -- the first such cycle of a run, if there is one
   abbrev pub first_diff : Whole S → Flip → ℕ → Option ℕ
   first_diff w f cycles = first_from cycles (differs w f) 0
 
-  -- the first alert, looked for in two cycles more
+  -- the first alert, looked for in the delay plus one cycles more
   abbrev pub first_alert : Whole S → Flip → ℕ → Option ℕ
-  first_alert w f cycles = first_from (cycles + 2) (alarms w f) 0
+  first_alert w f cycles = first_from (cycles + w.delay + 1) (alarms w f) 0
 
   -- the marks after n steps of the run without the flip, from the state of the flip on
   unfoldable pub marks_from : Spot → Marks → Whole S → ℕ → Marks
@@ -265,31 +271,34 @@ module _ {S : Type 0} (p : Parts S) where
 
   -- ---- the first state, and the laws
 
-  -- equal cores, an empty delay, and codewords everywhere
+  -- equal cores, a delay of one cycle or more in which no pair waits, nothing found, and codewords everywhere
   pub record IsFirst (w : Whole S) : Type 0 where
     pub cores : w.main ≡ w.shadow
+    pub some : 1 ≤ w.delay
+    pub full : length w.delayed ≡ w.delay
     pub age : w.age ≡ 0
+    pub untold : w.told ≡ false
     pub cycle : w.place.cycle ≡ 0
     pub words : Codewords w.place
 
--- none, or an alert that comes at most two cycles later
-abbrev pub Bounded : Option ℕ → Option ℕ → Type 0
-Bounded None _ = Unit {0}
-Bounded (Some d) None = ⊥
-Bounded (Some d) (Some a) = a ≤ d + 2
+-- none, or an alert that comes at most so many cycles later
+abbrev pub Bounded : ℕ → Option ℕ → Option ℕ → Type 0
+Bounded most None _ = Unit {0}
+Bounded most (Some d) None = ⊥
+Bounded most (Some d) (Some a) = a ≤ d + most
 
 module _ {S : Type 0} (p : Parts S) where
-  -- an alert comes at most two cycles after the first difference of the bus
+  -- an alert comes at most the delay plus one cycles after the first difference of the bus
   abbrev pub Noticed : Whole S → Flip → ℕ → Type 0
-  Noticed w f cycles = Bounded (first_diff p w f cycles) (first_alert p w f cycles)
+  Noticed w f cycles = Bounded (w.delay + 1) (first_diff p w f cycles) (first_alert p w f cycles)
 
   -- the same where any other core takes main's place before the step of a cycle; cycles are counted from there
   abbrev pub ReplacementNoticed : Whole S → ℕ → S → ℕ → Type 0
   ReplacementNoticed w cycle other cycles =
       let clean = run p w None cycle in
       let faulty : Whole S = record clean { main = other } in
-      Bounded (first_from cycles (parted p clean faulty) 0)
-      (first_from (cycles + 2) (λ n. alarm p (run p faulty None n)) 0)
+      Bounded (w.delay + 1) (first_from cycles (parted p clean faulty) 0)
+      (first_from (cycles + w.delay + 1) (λ n. alarm p (run p faulty None n)) 0)
 
   -- a flip beside main and its words never changes the bus
   abbrev pub Unseen : Whole S → Flip → Type 0

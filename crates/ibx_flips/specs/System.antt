@@ -1,6 +1,7 @@
 -- The state of the system, and its step.
 use Rattle.std.specs.Prelude.{ℕ, ◌+◌, ◌*◌, ◌/◌, ◌%◌, ◌^◌, min, Bool, false, not, ◌&&◌, ◌||◌, nat_le, ◌==◌}
-use Rattle.std.specs.Prelude.{if◌then◌else◌, List, slice_index, slice_set, Option, Some, None, bit_xor}
+use Rattle.std.specs.Prelude.{if◌then◌else◌, List, [], ◌∷◌, ◌++◌, drop, slice_index, slice_set, Option, Some, None}
+use Rattle.std.specs.Prelude.{bit_xor}
 use Rattle.ibx_isa.specs.declared.bus.Req.{Req}
 use Rattle.ibx_plan.specs.declared.entry.Change.{Change}
 use Rattle.ibx_plan.specs.Plan.{lines_at}
@@ -8,6 +9,7 @@ use Rattle.ibx_bus.specs.Memory.{MemoryState, memory_after, stored_word}
 use Rattle.ibx_bus.specs.Port.{PortState, answers, grants, port_next}
 use Rattle.ibx_core.specs.Wires.{InWires as In, OutWires as Out, agree, agree_bus}
 use Rattle.ibx_core.specs.declared.reads.Reads.{Reads}
+use Rattle.ibx_lockstep.specs.Lockstep.{differs, followed}
 use Rattle.ibx_flips.specs.Core.{Parts, is_alert}
 
 -- ---- the system
@@ -29,13 +31,15 @@ pub record Place : Type 0 where
   pub pending : Option (ℕ × ℕ)
   pub cycle : ℕ
 
--- two cores, the two pairs of input and output that wait for the shadow, how many of them are filled, and the words
+-- two cores; main's last inputs, each with its output, the oldest first; how many cycles the shadow is behind main, and
+-- how many have gone by since the start, up to these; whether the cycle before found a difference; and the words
 pub record Whole (S : Type 0) : Type 0 where
   pub main : S
   pub shadow : S
-  pub older : In × Out
-  pub newer : In × Out
+  pub delayed : List (In × Out)
+  pub delay : ℕ
   pub age : ℕ
+  pub told : Bool
   pub place : Place
 
 -- where the words of a line stand: set, half, tag words by set and way, data words by set, way and half
@@ -177,28 +181,28 @@ module _ {S : Type 0} (p : Parts S) where
     cycle = e.cycle + 1;
   }
 
+  -- whether the comparator finds a difference: the shadow's output for the oldest input isn't main's of then
+  abbrev pub finds : Whole S → Bool
+  finds w = nat_le w.delay w.age && differs p.gives agree w.shadow w.delayed
+
   -- phase 6: the cores, the delayed pairs and the comparator
   unfoldable pub next : Whole S → Whole S
-  next w = record {
+  next w = record w {
     main = p.leaves w.main (input w.place w.main);
-    shadow = if nat_le 2 w.age then p.leaves w.shadow w.older.0 else w.shadow;
-    older = w.newer;
-    newer = (input w.place w.main, output w.place w.main);
-    age = min (w.age + 1) 2;
+    shadow = if nat_le w.delay w.age then followed p.leaves w.shadow w.delayed else w.shadow;
+    delayed = drop 1 w.delayed ++ (input w.place w.main, output w.place w.main) ∷ [];
+    age = min (w.age + 1) w.delay;
+    told = finds w;
     place = settle w.place (output w.place w.main);
   }
-
-  -- whether the comparator tells a difference: the shadow's output for the oldest input isn't main's of then
-  abbrev pub is_told : Whole S → Bool
-  is_told w = nat_le 2 w.age && not (agree (p.gives w.shadow w.older.0) w.older.1)
 
   -- main's output in this cycle
   abbrev pub output_of : Whole S → Out
   output_of w = output w.place w.main
 
-  -- an alert of main, or a told difference
+  -- an alert of main, or a difference that the cycle before found
   abbrev pub alarm : Whole S → Bool
-  alarm w = is_alert (output_of w) || is_told w
+  alarm w = is_alert (output_of w) || w.told
 
 -- the bus as it is compared between two runs
 abbrev pub same_bus : Out → Out → Bool

@@ -10,15 +10,16 @@ ghost use Rattle.ibx_flips.specs.Core.{CoreLaws, core_parts};
 ghost use Rattle.ibx_flips.specs.System.{Whole};
 ghost use Rattle.ibx_flips.specs.Flips.{IsFirst, Noticed, ReplacementNoticed, ToldByUse, Unseen};
 
-/// After any one flip the bus stays as without it, or an alert comes at most two cycles after the first difference: for
-/// every first state, every flip that fits its memory, and every number of cycles.
+/// After any one flip the bus stays as without it, or an alert comes at most the delay plus one cycles after the first
+/// difference: for every first state with a delay of one cycle or more, every flip that fits its memory and its delay,
+/// and every number of cycles.
 pub fn noticed()
     ensures { (w : Whole State) (f : Flip) (cycles : ℕ) → IsFirst core_parts w
-        → site_fits (length w.place.memory.words) f.site ≡ true → Noticed core_parts w f cycles }
+        → site_fits (length w.place.memory.words) w.delay f.site ≡ true → Noticed core_parts w f cycles }
 {}
 
 /// After any change of main's fields, made before the step of any cycle, the bus stays as without it, or an alert comes
-/// at most two cycles after the first difference.
+/// at most the delay plus one cycles after the first difference.
 pub fn replacement_noticed()
     ensures { (w : Whole State) (cycle : ℕ) (other : State) (cycles : ℕ) → IsFirst core_parts w
         → ReplacementNoticed core_parts w cycle other cycles }
@@ -28,10 +29,11 @@ pub fn replacement_noticed()
 /// word is used, and then an alert comes in that cycle.
 pub fn told_by_use()
     ensures { (w : Whole State) (f : Flip) (cycles : ℕ) → IsFirst core_parts w
-        → site_fits (length w.place.memory.words) f.site ≡ true → ToldByUse core_parts w f cycles }
+        → site_fits (length w.place.memory.words) w.delay f.site ≡ true → ToldByUse core_parts w f cycles }
 {}
 
-/// After a flip in the shadow, in a delayed pair or in the age the bus stays as without it, for ever.
+/// After a flip in the shadow, in a delayed pair, in the age or in the kept finding the bus stays as without it, for
+/// ever.
 pub fn unseen()
     ensures { (w : Whole State) (f : Flip) → IsFirst core_parts w → Unseen core_parts w f }
 {}

@@ -1,3 +1,4 @@
 pub mod Lockstep
 pub mod Pairs
 pub mod Rings
+pub mod Told

@@ -147,22 +147,22 @@ module _ {S I O : Type 0} (d : ℕ) (gives : S → I → O) (leaves : S → I �
       subst (λ (x : S). TellsLater d gives leaves agree (at_age s x l 0)) same (from_start s l e some)
 
 -- what findings that are silent say
-skipped : (d n : ℕ) (bs : List Bool) → IsSilent (take n (replicate d false ++ bs)) → IsSilent (take (n - d) bs)
+pub skipped : (d n : ℕ) (bs : List Bool) → IsSilent (take n (replicate d false ++ bs)) → IsSilent (take (n - d) bs)
 skipped zero n bs h = let e : n ≡ n - 0 = omega arith in subst (λ k. IsSilent (take k bs)) e h
 skipped (suc d) zero bs h = let e : 0 ≡ 0 - suc d = omega arith in subst (λ k. IsSilent (take k bs)) e h
 skipped (suc d) (suc n) bs h =
     let e : n - d ≡ suc n - suc d = omega arith in subst (λ k. IsSilent (take k bs)) e (skipped d n bs h)
 
 -- and back: silent findings stay silent behind d silent ones
-padded : (d n : ℕ) (bs : List Bool) → ((k : ℕ) → IsSilent (take k bs)) → IsSilent (take n (replicate d false ++ bs))
+pub padded : (d n : ℕ) (bs : List Bool) → ((k : ℕ) → IsSilent (take k bs)) → IsSilent (take n (replicate d false ++ bs))
 padded zero n bs h = h n
 padded (suc d) zero bs h = refl
 padded (suc d) (suc n) bs h = padded d n bs h
 
 module _ {O : Type 0} (agree : O → O → Bool) where
   -- silent findings mean equal outputs, and equal outputs silent findings
-  same_first : (n : ℕ) (xs ys : List O) → n ≤ length xs → n ≤ length ys → IsSilent (take n (differences agree xs ys))
-      → SameFirst agree n xs ys
+  pub same_first : (n : ℕ) (xs ys : List O) → n ≤ length xs → n ≤ length ys
+      → IsSilent (take n (differences agree xs ys)) → SameFirst agree n xs ys
   same_first zero xs ys p q h = tt
   same_first (suc n) [] ys p q h = omega arith
   same_first (suc n) (x ∷ xs) [] p q h = omega arith
@@ -171,7 +171,7 @@ module _ {O : Type 0} (agree : O → O → Bool) where
       (not-false (agree x y) both.0, same_first n xs ys (omega arith) (omega arith) both.1)
 
   -- where each output agrees with itself, a list of outputs has no difference from itself
-  never_differs : ((o : O) → agree o o ≡ true) → (xs : List O) (n : ℕ) → IsSilent (take n (differences agree xs xs))
+  pub never_differs : ((o : O) → agree o o ≡ true) → (xs : List O) (n : ℕ) → IsSilent (take n (differences agree xs xs))
   never_differs self [] zero = refl
   never_differs self [] (suc n) = refl
   never_differs self (x ∷ xs) zero = refl
@@ -180,23 +180,24 @@ module _ {O : Type 0} (agree : O → O → Bool) where
       (never_differs self xs n)
 
 -- a run without changes has the inputs that it was handed
-inputs-unchanged : (A : Type 0) {I : Type 0} (is : List I) → inputs {A = A} (unchanged is) ≡ is
+pub inputs-unchanged : (A : Type 0) {I : Type 0} (is : List I) → inputs {A = A} (unchanged is) ≡ is
 inputs-unchanged A [] = refl
 inputs-unchanged A (i ∷ is) = ap (λ js. i ∷ js) (inputs-unchanged A is)
 
 module _ {S I O : Type 0} (d : ℕ) (gives : S → I → O) (leaves : S → I → S) where
   -- there are as many outputs as cycles
-  length-alone : (s : S) (ts : List (Option S × I)) → length (outputs_alone gives leaves s (inputs ts)) ≡ length ts
+  pub length-alone : (s : S) (ts : List (Option S × I)) → length (outputs_alone gives leaves s (inputs ts)) ≡ length ts
   length-alone s [] = refl
   length-alone s (t ∷ ts) = ap suc (length-alone (leaves s t.1) ts)
 
   -- the pair has one output of main's a cycle too, whatever is put in main's place
-  length-outputs : (p : Lockstep S I O) (ts : List (Option S × I)) → length (outputs d gives leaves p ts) ≡ length ts
+  pub length-outputs : (p : Lockstep S I O) (ts : List (Option S × I))
+      → length (outputs d gives leaves p ts) ≡ length ts
   length-outputs p [] = refl
   length-outputs p (t ∷ ts) = ap suc (length-outputs (after_turn d gives leaves p t) ts)
 
   -- an unchanged run has the outputs of main alone
-  outputs-unchanged : (p : Lockstep S I O) (is : List I)
+  pub outputs-unchanged : (p : Lockstep S I O) (is : List I)
       → outputs d gives leaves p (unchanged is) ≡ outputs_alone gives leaves p.main is
   outputs-unchanged p [] = refl
   outputs-unchanged p (i ∷ is) =

@@ -1,42 +1,46 @@
--- A pair of cores whose shadow is two cycles behind: its parts, what it tells, and what a cycle leaves. Our own rule,
--- as in the lockstep of dual cores with a delayed checker.
-use Rattle.std.specs.Prelude.{ℕ, ◌+◌, min, Bool, not, ◌&&◌, ◌==◌, nat_le, if◌then◌else◌, [], ◌∷◌}
-use Rattle.ibx_lockstep.specs.Lockstep.{Lockstep}
+-- A pair of cores whose shadow is a chosen delay behind main: its parts, what it finds, and what a cycle leaves. Our
+-- own rule, as in the lockstep of dual cores with a delayed checker.
+use Rattle.std.specs.Prelude.{ℕ, ◌+◌, min, Bool, nat_le, if◌then◌else◌, List, [], ◌∷◌, ◌++◌, drop, slice_set}
+use Rattle.ibx_lockstep.specs.Lockstep.{Lockstep, followed, is_told_after}
 
--- a delayed pair is an input with main's output for it; the age counts the cycles since the start, up to two
+-- the shadow is the delay behind main; the delayed pairs are the last inputs, each with main's output for it, as many
+-- as the delay and the oldest first; the age counts the cycles since the start, up to the delay; and told says whether
+-- the cycle before found a difference
 pub record Paired (S I O : Type 0) : Type 0 where
+  pub delay : ℕ
   pub main : S
   pub shadow : S
-  pub older : I × O
-  pub newer : I × O
+  pub delayed : List (I × O)
   pub age : ℕ
+  pub told : Bool
 
 module _ {S I O : Type 0} where
-  -- a difference is told where the age is at least two, and the shadow's output for the older input isn't the same as
-  -- the older output
-  unfoldable pub is_told : (S → I → O) → (O → O → Bool) → Paired S I O → Bool
-  is_told gives agree p = nat_le 2 p.age && not (agree (gives p.shadow p.older.0) p.older.1)
+  -- the same as the laws of any delay name it, without what was found
+  abbrev pub lockstep_of : Paired S I O → Lockstep S I O
+  lockstep_of p = record { main = p.main; shadow = p.shadow; delayed = p.delayed; age = p.age }
 
-  -- after a cycle with main's input i and its output o: main has moved by i, the shadow by the older input where the
-  -- age is at least two, the newer pair has become the older, i and o are the newer, and the age has risen by one up
-  -- to two
-  unfoldable pub stepped : (S → I → S) → Paired S I O → I → O → Paired S I O
-  stepped leaves p i o = record {
+  -- a difference is found where the age is at least the delay, and the shadow's output for the oldest input isn't the
+  -- same as the oldest output
+  unfoldable pub finds : (S → I → O) → (O → O → Bool) → Paired S I O → Bool
+  finds gives agree p = is_told_after p.delay gives agree (lockstep_of p)
+
+  -- after a cycle with main's input i and its output o: main has moved by i, the shadow by the oldest input where the
+  -- age is at least the delay, the oldest pair is gone, i and o are the newest, the age has risen by one up to the
+  -- delay, and what was found is told next
+  unfoldable pub stepped : (S → I → O) → (O → O → Bool) → (S → I → S) → Paired S I O → I → O → Paired S I O
+  stepped gives agree leaves p i o = record p {
     main = leaves p.main i;
-    shadow = if nat_le 2 p.age then leaves p.shadow p.older.0 else p.shadow;
-    older = p.newer;
-    newer = (i, o);
-    age = min (p.age + 1) 2;
+    shadow = if nat_le p.delay p.age then followed leaves p.shadow p.delayed else p.shadow;
+    delayed = drop 1 p.delayed ++ (i, o) ∷ [];
+    age = min (p.age + 1) p.delay;
+    told = finds gives agree p;
   }
 
-  -- the delayed pair in a slot: the older in slot 0, the newer in slot 1
-  abbrev pub delayed_in : Paired S I O → ℕ → I × O
-  delayed_in p slot = if slot == 0 then p.older else p.newer
-
-  -- the pair with another delayed pair in a slot
+  -- the pair with another delayed pair in a slot; slot 0 is the oldest
   abbrev pub with_delayed : Paired S I O → ℕ → I × O → Paired S I O
-  with_delayed p slot x = if slot == 0 then record p { older = x } else record p { newer = x }
+  with_delayed p slot x = record p { delayed = slice_set p.delayed slot x }
 
-  -- the same with its delayed pairs as a list
-  abbrev pub lockstep_of : Paired S I O → Lockstep S I O
-  lockstep_of p = record { main = p.main; shadow = p.shadow; delayed = p.older ∷ p.newer ∷ []; age = p.age }
+  -- a core's output for the oldest input, or this one where there is none
+  abbrev pub given : (S → I → O) → S → List (I × O) → O → O
+  given gives s [] o = o
+  given gives s (x ∷ xs) o = gives s x.0

@@ -1,6 +1,6 @@
 ghost use Rattle.std.specs.Prelude.{◌≡◌, ◌+◌, ◌%◌, ◌==◌};
 
-use crate::{CoreCycle, CoreStep, Pair, Ring};
+use crate::{CoreCycle, CoreStep, Delay, Pair, Ring};
 
 // What is pushed, and the values of the last two pushes after it, as by hand.
 #[test]
@@ -88,9 +88,9 @@ impl CoreCycle for Counter {
     }
 }
 
-fn counters() -> Pair<Counter> {
+fn counters(delay: Delay) -> Pair<Counter> {
     let counter = Counter { count: 10 };
-    Pair::new(counter, counter, 0, 0)
+    Pair::new(counter, counter, delay, 0, 0)
 }
 
 // One cycle with main's own output.
@@ -99,19 +99,21 @@ fn turn(pair: &mut Pair<Counter>, i: u8) -> bool {
     pair.step(&i, &o)
 }
 
-// Main is changed before cycle 3, and told from cycle 5 on; the outputs of main alone are 10, 11, 13, 16, 20, 25, 31.
+// Main is changed before cycle 3, and told from cycle 6 on; the outputs of main alone are 10, 11, 13, 16, 20, 25, 31.
 #[test]
-fn told_two_cycles_later(rt: HostRuntime) {
+fn told_three_cycles_later(rt: HostRuntime) {
     let rows = [
         (1, 10, 0, false),
         (2, 11, 1, false),
         (3, 13, 2, false),
         (4, 17, 2, false),
         (5, 21, 2, false),
-        (6, 26, 2, true),
+        (6, 26, 2, false),
         (7, 32, 2, true),
+        (8, 39, 2, true),
     ];
-    let mut pair = counters();
+    let mut pair = counters(Delay::Two);
+    assert_eq!(rt; pair.behind(), 2);
     for (i, output, age, told) in rows {
         if i == 4 {
             pair.main_mut().count = 17;
@@ -122,7 +124,28 @@ fn told_two_cycles_later(rt: HostRuntime) {
     }
 }
 
-// The same rows with each cycle made in two halves.
+// The same change with each delay: it is told one cycle more than the delay behind cycle 3.
+#[test]
+fn told_by_each_delay(rt: HostRuntime) {
+    let rows = [(1, 5), (2, 6), (3, 7), (4, 8)];
+    for (cycles, first) in rows {
+        let mut pair = counters(Delay::of(cycles));
+        assert_eq!(rt; pair.behind(), cycles);
+        for i in 0..10 {
+            if i == 3 {
+                pair.main_mut().count = 17;
+            }
+            assert_eq!(rt;
+                turn(&mut pair, i),
+                i >= first,
+                "at cycle {i} with {cycles}"
+            );
+        }
+        assert_eq!(rt; pair.age(), cycles);
+    }
+}
+
+// The first rows with each cycle made in two halves.
 #[test]
 fn told_of_halves(rt: HostRuntime) {
     let rows = [
@@ -131,10 +154,11 @@ fn told_of_halves(rt: HostRuntime) {
         (3, 13, false),
         (4, 17, false),
         (5, 21, false),
-        (6, 26, true),
+        (6, 26, false),
         (7, 32, true),
+        (8, 39, true),
     ];
-    let mut pair = counters();
+    let mut pair = counters(Delay::Two);
     let (mut o, mut own) = (0, 0);
     for (i, output, told) in rows {
         if i == 4 {
@@ -148,19 +172,21 @@ fn told_of_halves(rt: HostRuntime) {
 
 #[test]
 fn silent_without_a_change(rt: HostRuntime) {
-    let mut pair = counters();
-    for i in [7, 0, 250, 1, 9, 3] {
+    let mut pair = counters(Delay::Four);
+    for i in [7, 0, 250, 1, 9, 3, 8, 2] {
         assert!(rt; !turn(&mut pair, i), "at the input {i}");
     }
 }
 
-// A change of the shadow, and of a delayed output, is told in the cycle that compares it.
+// A change of the shadow, and of a delayed output, is told one cycle after it is compared; what is set to be told is
+// told at once.
 #[test]
 fn told_of_the_observer(rt: HostRuntime) {
-    let mut pair = counters();
+    let mut pair = counters(Delay::Two);
     for i in [1, 2, 3] {
         assert!(rt; !turn(&mut pair, i), "at the input {i}");
     }
+    assert_eq!(rt; pair.behind(), 2);
     assert_eq!(rt; (pair.delay(0), pair.delay(1)), ((2, 11), (3, 13)));
     pair.set_delay(1, 3, 14);
     assert_eq!(rt; (pair.delay(0), pair.delay(1)), ((2, 11), (3, 14)));
@@ -168,8 +194,16 @@ fn told_of_the_observer(rt: HostRuntime) {
     assert_eq!(rt; pair.age(), 3);
     assert!(rt; !turn(&mut pair, 4));
     assert_eq!(rt; pair.age(), 2);
-    assert!(rt; turn(&mut pair, 5));
-    assert!(rt; !turn(&mut pair, 6));
+    assert!(rt; !turn(&mut pair, 5));
+    assert!(rt; pair.told());
+    assert!(rt; turn(&mut pair, 6));
     pair.shadow_mut().count = 0;
-    assert!(rt; turn(&mut pair, 7));
+    assert!(rt; !turn(&mut pair, 7));
+    assert!(rt; turn(&mut pair, 8));
+    pair.set_told(false);
+    assert!(rt; !turn(&mut pair, 9));
+    let mut quiet = counters(Delay::One);
+    quiet.set_told(true);
+    assert!(rt; turn(&mut quiet, 1));
+    assert!(rt; !turn(&mut quiet, 2));
 }

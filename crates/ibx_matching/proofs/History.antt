@@ -17,13 +17,11 @@ use Rattle.ibx_joining.proofs.Results.{Laws}
 use Rattle.ibx_machine.specs.Whole.{IsPlaced}
 use Rattle.ibx_theorem.proofs.Theorem.{system_laws}
 use Rattle.ibx_flips.specs.Core.{core_parts}
-use Rattle.ibx_flips.specs.System.{Whole, is_told, look, next, output, output_of}
-use Rattle.ibx_flips.proofs.RealCore.{core_laws}
+use Rattle.ibx_flips.specs.System.{Whole, look, next, output, output_of}
 use Rattle.ibx_matching.specs.Cycles.{SameOut}
 use Rattle.ibx_soc.specs.Cycles.{alerts_with, cycle_of, soc_next}
 use Rattle.ibx_matching.specs.Laws.{IsHistory, after, events_of, line_of}
 use Rattle.ibx_matching.specs.Projection.{IsStart}
-use Rattle.ibx_matching.proofs.Echoes.{untold}
 use Rattle.ibx_matching.proofs.Inputs.{input_is}
 use Rattle.ibx_matching.proofs.Minors.{minor_quiet}
 use Rattle.ibx_matching.proofs.Outputs.{out_is}
@@ -106,9 +104,9 @@ quiet_along s ok c w a quiet =
     let main_quiet : (puts w).alerts ≡ false =
     ap (λ (x : Shown). x.alerts) (sym (shows s c w a)) ∙ ap (λ (y : System). (shown_of s y).alerts) a.system ∙ quiet in
     no_alerts (output_of core_parts w).alerts (is_minor w.main (look core_parts w.place w.main)) (puts w).alerts
-    (is_told core_parts w)
+    w.told
     (out_along s ok c w a).alerts (minor_quiet w.place w.main a.words) main_quiet
-    (untold core_parts core_laws w a.echoes)
+    a.follows.untold
 
 -- ---- all laws
 

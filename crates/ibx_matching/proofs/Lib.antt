@@ -4,7 +4,6 @@ pub mod Heard
 pub mod Writes
 pub mod Fillings
 pub mod Outputs
-pub mod Echoes
 pub mod Inputs
 pub mod Steps
 pub mod Kept

@@ -1,6 +1,7 @@
 -- The system as it is opened is a first state of its setup.
 use Rattle.std.proofs.Common.{◌≡◌, ℕ, zero, suc, ◌+◌, ◌/◌, ◌^◌, ◌<◌, List, ◌∷◌, map, refl, ap, ap₂, ◌∙◌, arith}
 use Rattle.std.specs.Prelude.{All, replicate}
+use Rattle.std.proofs.lemmas.List.{length-replicate}
 use Rattle.std.proofs.lemmas.List.Elements.{All-cons, All-nil}
 use Rattle.ibx_secded.specs.Code.{checks, column, columns, encode_of, numbers_of_weight, weight}
 use Rattle.ibx_elf.specs.Image.{Placed, image_byte, image_word}
@@ -9,6 +10,9 @@ use Rattle.ibx_core.specs.Wires.{quiet_in, quiet_out}
 use Rattle.ibx_time.specs.Settings.{Setup}
 use Rattle.ibx_machine.specs.System.{first_system, image_words}
 use Rattle.ibx_machine.specs.Whole.{IsPlaced}
+use Rattle.ibx_lockstep.specs.Delays.{cycles_of}
+use Rattle.ibx_lockstep.specs.declared.delay.Delay.{Delay}
+use Rattle.ibx_lockstep.proofs.Pairs.{some_cycles}
 use Rattle.ibx_flips.specs.Core.{core_parts}
 use Rattle.ibx_flips.proofs.First.{codewords_at_reset, first_at_reset}
 use Rattle.ibx_soc.specs.First.{first, words_from}
@@ -57,16 +61,17 @@ pub start_is : (s : Setup) (w : Whole State) → IsStart s w → machine_system 
 start_is s w i = ap₂ system_in i.main i.place ∙ first_is s
 
 -- the system as it is opened
-pub starts : (s : Setup) → IsPlaced s → IsStart s (opened s)
+pub starts : (s : Setup) (delay : Delay) → IsPlaced s → IsStart s (opened s delay)
 unfolding first
-starts s ok =
+starts s delay ok =
     let base : ℕ = s.image.ram.base in
     let words : List ℕ = words_from s.image base (s.image.ram.size / 4) in
     let low : All (λ v. v < 2 ^ 32) words = words_low s.image ok.bytes base (s.image.ram.size / 4) in
     record {
       first =
-          first_at_reset core_parts (reset_of s.image.entry) (quiet_in, quiet_out) (quiet_in, quiet_out)
-          (opened s).place refl
+          first_at_reset core_parts (reset_of s.image.entry) (replicate (cycles_of delay) (quiet_in, quiet_out))
+          (cycles_of delay) (opened s delay).place (some_cycles delay)
+          (length-replicate (cycles_of delay) (quiet_in, quiet_out)) refl
           (codewords_at_reset (settings_in s) words base s.plan.iwaits s.plan.dwaits low);
       main = refl;
       place = refl;

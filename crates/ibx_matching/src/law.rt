@@ -8,6 +8,7 @@ ghost use Rattle.ibx_core.specs.declared.state.State.{State};
 ghost use Rattle.ibx_core.specs.Wires.{InWires};
 ghost use Rattle.ibx_time.specs.Settings.{Setup};
 ghost use Rattle.ibx_machine.specs.Whole.{IsPlaced};
+ghost use Rattle.ibx_lockstep.specs.declared.delay.Delay.{Delay};
 ghost use Rattle.ibx_flips.specs.System.{Whole};
 ghost use Rattle.ibx_matching.specs.Cycles.{SameCycle};
 ghost use Rattle.ibx_matching.specs.Projection.{AreWords, IsStart, of_file, opened};
@@ -27,7 +28,7 @@ pub fn placed()
 
 /// The system as it is opened for an image, a configuration and a plan is a first state of a run.
 pub fn starts()
-    ensures { (s : Setup) → IsPlaced s → IsStart s (opened s) }
+    ensures { (s : Setup) (delay : Delay) → IsPlaced s → IsStart s (opened s delay) }
 {}
 
 /// Without a flip the steps of the system are the history: their events, their requests, no alert of main and none of

@@ -61,7 +61,7 @@ both false b h = cc
 flip_fits : (bounds : Bounds) (flip : Flip) → entry_fits bounds (entry.Flip flip) ≡ true → FlipFits bounds flip
 unfolding entry_fits
 flip_fits bounds flip h =
-    let at = both (nat_lt flip.cycle bounds.cycles) (site_fits bounds.ram_words flip.site) h in
+    let at = both (nat_lt flip.cycle bounds.cycles) (site_fits bounds.ram_words bounds.delay flip.site) h in
     record { cycle = grind (arith, at.0); site = search at.1 }
 
 -- an entry that changes a list leaves the flip

@@ -116,7 +116,8 @@ entry_fits bounds (entry.Iwait wait) = nat_le wait.grant 255 && nat_le wait.answ
 entry_fits bounds (entry.Dwait wait) = nat_le wait.grant 255 && nat_le wait.answer 255
 entry_fits bounds (entry.Irq change) =
     nat_le change.cycle 1000000000 && (bit_and change.mask interrupt_lines == change.mask)
-entry_fits bounds (entry.Flip flip) = nat_lt flip.cycle bounds.cycles && site_fits bounds.ram_words flip.site
+entry_fits bounds (entry.Flip flip) =
+    nat_lt flip.cycle bounds.cycles && site_fits bounds.ram_words bounds.delay flip.site
 
 -- an entry all of whose numbers are in range, or that fault
 abbrev pub in_range : Bounds → Entry → Result Entry LineKind

@@ -31,7 +31,7 @@ fields =
     (codes "pmpaddr12_n", 32) ∷ (codes "pmpaddr13_n", 32) ∷ (codes "pmpaddr14_n", 32) ∷
     (codes "pmpaddr15_n", 32) ∷ []
 
--- the inputs of the core, its outputs, and the age of the delayed pairs
+-- the inputs of the core, its outputs, the age of the delayed pairs, and whether the cycle before found a difference
 unfoldable pub wires : List (List ℕ × ℕ)
 wires =
     (codes "irsp_valid", 1) ∷ (codes "irsp_err", 1) ∷ (codes "irsp_word", 39) ∷ (codes "drsp_valid", 1) ∷
@@ -41,7 +41,8 @@ wires =
     (codes "dreq", 1) ∷ (codes "dwe", 1) ∷ (codes "dbe", 4) ∷ (codes "daddr", 32) ∷ (codes "dword", 39) ∷
     (codes "ra", 5) ∷ (codes "rb", 5) ∷ (codes "rw", 1) ∷ (codes "rwn", 5) ∷ (codes "rwword", 39) ∷
     (codes "line", 32) ∷ (codes "tways", 2) ∷ (codes "tset", 8) ∷ (codes "tword", 28) ∷ (codes "dways", 2) ∷
-    (codes "dw0", 39) ∷ (codes "dw1", 39) ∷ (codes "alerts", 3) ∷ (codes "age", 2) ∷ []
+    (codes "dw0", 39) ∷ (codes "dw1", 39) ∷ (codes "alerts", 3) ∷ (codes "age", 3) ∷
+    (codes "told", 1) ∷ []
 
 -- the words that the register file, the tag rows and the data rows hand to the core
 unfoldable pub outputs : List (List ℕ × ℕ)

@@ -128,7 +128,7 @@ pub record Holds (plan : PlanValue) (entries : List Entry) : Type 0 where
 -- the flip is made in a cycle of the run, at a bit that there is
 pub record FlipFits (bounds : Bounds) (flip : Flip) : Type 0 where
   pub cycle : flip.cycle < bounds.cycles
-  pub site : IsTrue (site_fits bounds.ram_words flip.site)
+  pub site : IsTrue (site_fits bounds.ram_words bounds.delay flip.site)
 
 -- a fault is the one that is wanted; want of memory may come at any time
 abbrev pub Fails : {A : Type 0} → PlanFault → Result A PlanFault → Type 0

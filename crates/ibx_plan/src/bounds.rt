@@ -3,6 +3,8 @@
 pub struct Bounds {
     /// The words of RAM; a flip of a RAM word names one below it.
     pub ram_words: u32,
+    /// The cycles by which the shadow core is behind main; a flip of a delayed wire names a slot below it.
+    pub delay: u8,
     /// How many flips the plan has: 0, or 1, which it then has to have. More than 1 counts as 1.
     pub flips: u32,
     /// The cycles of the run; a flip is made in one below it.

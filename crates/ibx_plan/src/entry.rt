@@ -34,8 +34,8 @@ const LAST_CHANGE: u64 = 1_000_000_000;
 #[tactic(auto, using(crate::proofs::Narrow::narrow_field, crate::proofs::Narrow::narrow_wire, crate::proofs::Narrow::narrow_output), unfolding(crate::specs::Line::site_of, crate::specs::Sites::site_fits, crate::specs::Sites::ranges))]
 fn site_at(words: &Words, target: Target) -> Option<Site>
     ensures some { IfSome result (λ site. site ≡ site_of target (number_at words.now)) }
-    ensures none { IfNone result ((ram_words : ℕ) → ram_words < 2 ^ 32
-        → site_fits ram_words (site_of target (number_at words.now)) ≡ false) }
+    ensures none { IfNone result ((ram_words delay : ℕ) → ram_words < 2 ^ 32 → delay < 2 ^ 8
+        → site_fits ram_words delay (site_of target (number_at words.now)) ≡ false) }
 {
     Some(match target {
         Target::Main(field) => Site::Main {
@@ -81,11 +81,11 @@ fn site_at(words: &Words, target: Target) -> Option<Site>
     })
 }
 
-fn site_of(words: &Words, target: Target, ram_words: u32) -> Option<Site>
-    ensures { result ≡ fitting ram_words (site_of target (number_at words.now)) }
+fn site_of(words: &Words, target: Target, ram_words: u32, delay: u8) -> Option<Site>
+    ensures { result ≡ fitting ram_words delay (site_of target (number_at words.now)) }
 {
     match site_at(words, target) {
-        Some(site) if site.fits(ram_words) => Some(site),
+        Some(site) if site.fits(ram_words, delay) => Some(site),
         _ => None,
     }
 }
@@ -127,7 +127,7 @@ fn entry_of(words: &Words, row: Row, bounds: &Bounds) -> Result<Entry, LineKind>
         Row::Iwait => wait_of(cycle, number_at(words, 2)).map(Entry::Iwait),
         Row::Dwait => wait_of(cycle, number_at(words, 2)).map(Entry::Dwait),
         Row::Irq => change_of(cycle, number_at(words, 2)).map(Entry::Irq),
-        Row::Flip(target) => match site_of(words, target, bounds.ram_words) {
+        Row::Flip(target) => match site_of(words, target, bounds.ram_words, bounds.delay) {
             Some(site) if cycle < bounds.cycles => Some(Entry::Flip(Flip { cycle, site })),
             _ => None,
         },

@@ -100,8 +100,9 @@ static FIELD_TABLE: [Part; 87] = [
     ("pmpaddr15_n", 32),
 ];
 
-// The core's inputs, its outputs, and the age of the delayed pairs, by number.
-static WIRE_TABLE: [Part; 37] = [
+// The core's inputs, its outputs, the age of the delayed pairs, and whether the cycle before found a difference, by
+// number.
+static WIRE_TABLE: [Part; 38] = [
     ("irsp_valid", 1),
     ("irsp_err", 1),
     ("irsp_word", 39),
@@ -138,7 +139,8 @@ static WIRE_TABLE: [Part; 37] = [
     ("dw0", 39),
     ("dw1", 39),
     ("alerts", 3),
-    ("age", 2),
+    ("age", 3),
+    ("told", 1),
 ];
 
 // The words that the memories hand to the core, by number.

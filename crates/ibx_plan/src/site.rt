@@ -15,8 +15,8 @@ pub enum Site {
     Main { field: u8, bit: u8 },
     /// The same field of the shadow core.
     Shadow { field: u8, bit: u8 },
-    /// A delayed wire between the two cores: slot 0 is the older one, and wire 36, the age of the
-    /// delayed pairs, has slot 0 alone.
+    /// A delayed wire between the two cores: slot 0 is the oldest one. Wire 36, the age of the delayed
+    /// pairs, and wire 37, whether the cycle before found a difference, have slot 0 alone.
     Delay { slot: u8, wire: u8, bit: u8 },
     /// The stored word of register x`n`, `n` from 1 to 31.
     Reg { n: u8, bit: u8 },
@@ -39,23 +39,23 @@ const WORD_BITS: u8 = 39;
 // How many bits a tag word has.
 const TAG_BITS: u8 = 28;
 
-// The age of the delayed pairs, which has slot 0 alone.
+// The age of the delayed pairs, which has slot 0 alone, and so has the wire behind it.
 const AGE: u8 = 36;
 
 impl Site {
     ghost use Rattle.std.specs.Prelude.{◌≡◌};
     ghost use Rattle.ibx_plan.specs.Sites.{site_fits};
 
-    /// Whether there is such a bit in a machine with so many words of RAM. The set of a tag word or a data
-    /// word is from 0 to 255, as its type says.
+    /// Whether there is such a bit in a machine with so many words of RAM and this delay. The set of a tag
+    /// word or a data word is from 0 to 255, as its type says.
     #[tactic(auto, unfolding(crate::specs::Sites::site_fits, crate::specs::Sites::ranges))]
-    pub fn fits(self, ram_words: u32) -> bool
-        ensures { result ≡ site_fits ram_words self }
+    pub fn fits(self, ram_words: u32, delay: u8) -> bool
+        ensures { result ≡ site_fits ram_words delay self }
     {
         match self {
             Site::Main { field, bit } | Site::Shadow { field, bit } => bit < field_width(field),
             Site::Delay { slot, wire, bit } => {
-                let slots = if wire == AGE { 1 } else { 2 };
+                let slots = if wire >= AGE { 1 } else { delay };
                 slot < slots && bit < wire_width(wire)
             }
             Site::Reg { n, bit } => 1 <= n && n < 32 && bit < WORD_BITS,

@@ -8,10 +8,11 @@ use std::marker::Brand;
 use std::sync::ledger::{Blank, Ledger};
 use std::test::Fail;
 
-// A run of 1,000 cycles over 1 MiB of RAM.
+// A run of 1,000 cycles over 1 MiB of RAM, with the shadow two cycles behind.
 fn bounds(flips: u32) -> Bounds {
     Bounds {
         ram_words: 262_144,
+        delay: 2,
         flips,
         cycles: 1000,
     }
@@ -36,7 +37,7 @@ fn repeated(alloc: Global, line: &str, count: u32) -> Result<String, AllocError>
     Ok(text)
 }
 
-static REFUSED: [(&str, u32, PlanFault); 45] = [
+static REFUSED: [(&str, u32, PlanFault); 48] = [
     (
         "flip 0 mem 0 0\nflip 0 mem 0 0\n",
         1,
@@ -115,6 +116,21 @@ static REFUSED: [(&str, u32, PlanFault); 45] = [
         PlanFault::Line(1, LineKind::Range),
     ),
     (
+        "flip 0 delay 1 told 0",
+        1,
+        PlanFault::Line(1, LineKind::Range),
+    ),
+    (
+        "flip 0 delay 0 age 3",
+        1,
+        PlanFault::Line(1, LineKind::Range),
+    ),
+    (
+        "flip 0 delay 0 told 1",
+        1,
+        PlanFault::Line(1, LineKind::Range),
+    ),
+    (
         "flip 0 delay 0 rega 39",
         1,
         PlanFault::Line(1, LineKind::Range),
@@ -179,7 +195,7 @@ fn cut_texts(rt: HostRuntime) {
     }
 }
 
-static FLIPS: [(&str, Site); 11] = [
+static FLIPS: [(&str, Site); 12] = [
     (
         "flip 999 main id_word 15",
         Site::Main { field: 20, bit: 15 },
@@ -197,11 +213,19 @@ static FLIPS: [(&str, Site); 11] = [
         },
     ),
     (
-        "flip 999 delay 0 age 1",
+        "flip 999 delay 0 age 2",
         Site::Delay {
             slot: 0,
             wire: 36,
-            bit: 1,
+            bit: 2,
+        },
+    ),
+    (
+        "flip 999 delay 0 told 0",
+        Site::Delay {
+            slot: 0,
+            wire: 37,
+            bit: 0,
         },
     ),
     ("flip 999 reg 31 38", Site::Reg { n: 31, bit: 38 }),
@@ -249,6 +273,51 @@ fn accepted_flip(alloc: Global, text: &str) -> Option<Flip> {
     }
 }
 
+// Why a text is refused under this delay; the texts here are short.
+fn fault_behind(alloc: Global, text: &str, delay: u8) -> Option<PlanFault> {
+    if text.len() > 1_000_000 {
+        return Some(PlanFault::Memory);
+    }
+    let mut least = bounds(1);
+    least.delay = delay;
+    match read(alloc, text.as_bytes(), &least) {
+        Ok(_) => None,
+        Err(fault) => Some(fault),
+    }
+}
+
+static SLOT_ROWS: [(&str, u8, bool); 6] = [
+    ("flip 3 delay 0 lines 0", 1, true),
+    ("flip 3 delay 1 lines 0", 1, false),
+    ("flip 3 delay 2 lines 0", 2, false),
+    ("flip 3 delay 2 lines 0", 3, true),
+    ("flip 3 delay 3 lines 0", 4, true),
+    ("flip 3 delay 4 lines 0", 4, false),
+];
+
+fn slot_rows() -> &'static [(&'static str, u8, bool)] {
+    &SLOT_ROWS
+}
+
+// There are as many slots as the delay.
+#[test]
+fn slots_of_each_delay(rt: HostRuntime) {
+    for row in slot_rows() {
+        let expected = if row.2 {
+            None
+        } else {
+            Some(PlanFault::Line(1, LineKind::Range))
+        };
+        assert_eq!(rt;
+            fault_behind(rt.alloc(), row.0, row.1),
+            expected,
+            "at {} with {}",
+            row.0,
+            row.1
+        );
+    }
+}
+
 fn lists(alloc: Global) -> Option<Plan> {
     let text =
         b"iwait 2 1\r\n dwait\t0xfF  0000000255 \n#irq 1 8\nirq 3 8\niwait 0 0\nirq 0x10 0x7fff0888";
@@ -279,7 +348,7 @@ fn accepted_texts(rt: HostRuntime) -> Result<(), Fail> {
             "at {}",
             row.0
         );
-        assert!(rt; row.1.fits(262_144), "at {}", row.0);
+        assert!(rt; row.1.fits(262_144, 2), "at {}", row.0);
     }
     let plan = lists(rt.alloc()).ok_or("refused")?;
     let iwaits = [

@@ -30,9 +30,9 @@ changed_fits w k width lt h = xor_lt width w (2 ^ k) h (pow_below k width lt)
 pub age_changed : (w k : ℕ) → k < 8 → bit_xor w (1 * 2 ^ k % 256) ≡ bit_xor w (2 ^ k)
 age_changed w k lt = rw (one_shl k 8 lt) refl
 
--- the age stays below 4
-pub age_fits : (w k : ℕ) → k < 2 → w < 4 → bit_xor w (2 ^ k) < 4
-age_fits w k lt h = changed_fits w k 2 lt h
+-- the age stays below 8
+pub age_fits : (w k : ℕ) → k < 3 → w < 8 → bit_xor w (2 ^ k) < 8
+age_fits w k lt h = changed_fits w k 3 lt h
 
 -- each number of a list that is tested is at most 64, and past the end there is 0
 small_at : (xs : List ℕ) → list_all (λ n. nat_le n 64) xs ≡ true → (k : ℕ) → slice_index xs k ≤ 64
@@ -68,8 +68,8 @@ pub bit_small : (wire k : ℕ) → k < width_in wires wire → k < 64
 bit_small wire k lt = let small = wire_small wire in let here : k < wire_width wire = subst (λ n. k < n)
     (width_is wire) lt in omega arith
 
--- a bit of the age is one of two
-pub age_bit : (wire k : ℕ) → k < width_in wires wire → wire ≡ 36 → k < 2
+-- a bit of the age is one of three
+pub age_bit : (wire k : ℕ) → k < width_in wires wire → wire ≡ 36 → k < 3
 age_bit wire k lt e = subst (λ n. k < n) (ap wire_width e) (subst (λ n. k < n) (width_is wire) lt)
 
 -- a bit of a list of widths is of a number in the list
@@ -78,9 +78,9 @@ bit_inside [] n k lt = absurd (omega (arith, lt))
 bit_inside (x ∷ xs) zero k lt = omega arith
 bit_inside (x ∷ xs) (suc n) k lt = omega (arith, bit_inside xs n k lt)
 
--- a bit of a delayed wire that isn't the age is of one of the 36 wires
-pub wire_inside : (wire k : ℕ) → k < width_in wires wire → wire ≢ 36 → wire < 36
-wire_inside wire k lt ne = omega (arith, bit_inside wire_widths wire k (subst (λ n. k < n) (width_is wire) lt))
+-- a bit of a delayed wire that is neither the age nor what was found is of one of the 36 wires
+pub wire_inside : (wire k : ℕ) → k < width_in wires wire → wire ≢ 36 → wire ≢ 37 → wire < 36
+wire_inside wire k lt age told = omega (arith, bit_inside wire_widths wire k (subst (λ n. k < n) (width_is wire) lt))
 
 -- a bit of a field is of one of the 87 fields
 pub field_inside : (field k : ℕ) → k < width_in field_table field → field < 87

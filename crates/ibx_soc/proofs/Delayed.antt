@@ -1,37 +1,40 @@
 -- A delayed pair with one bit changed.
-use Rattle.std.proofs.Common.{◌≡◌, ◌≢◌, ℕ, zero, suc, ◌<◌, ap, ◌∙◌, arith}
-use Rattle.std.specs.Prelude.{Bool, true, false, ◌==◌, if◌then◌else◌}
+use Rattle.std.proofs.Common.{◌≡◌, ◌≢◌, ℕ, zero, suc, ◌<◌, List, [], ◌∷◌, slice_get, slice_set, Some, refl, ap, ◌∙◌}
+use Rattle.std.proofs.Common.{arith}
+use Rattle.std.specs.Prelude.{◌==◌, nat_le, if◌then◌else◌}
 use Rattle.ibx_plan.specs.Sites.{slots}
-use Rattle.std.proofs.lemmas.Bool.{ne_eqb}
+use Rattle.std.proofs.lemmas.Bool.{lt-leb, ne_eqb}
 use Rattle.ibx_core.specs.declared.state.State.{State}
 use Rattle.ibx_core.specs.Flipped.{wire_flip}
 use Rattle.ibx_core.specs.Wires.{InWires as In, OutWires as Out}
-use Rattle.ibx_lockstep.specs.Paired.{Paired, delayed_in, with_delayed}
+use Rattle.ibx_lockstep.specs.Paired.{Paired, with_delayed}
 use Rattle.ibx_flips.specs.Core.{core_parts}
 use Rattle.ibx_flips.specs.System.{Place}
-use Rattle.ibx_flips.specs.Flips.{delay_flip}
+use Rattle.ibx_flips.specs.Flips.{changed_at, delay_flip}
 use Rattle.ibx_soc.specs.Seen.{whole_in}
 
--- there are two slots at most
-slots_by : (age : Bool) (slot : ℕ) → slot < (if age then 1 else 2) → slot < 2
-slots_by true slot lt = omega (arith, lt)
-slots_by false slot lt = lt
+-- a wire of a pair has as many slots as the delay
+pub slot_inside : (delay slot wire : ℕ) → wire < 36 → slot < slots delay wire → slot < delay
+slot_inside delay slot wire low lt =
+    let more : slots delay wire ≡ delay = ap (λ b. if b then 1 else delay) (lt-leb 36 wire low) in
+    omega (arith, lt, more)
 
--- so a slot that fits is 0 or 1
-pub slot_small : (slot wire : ℕ) → slot < slots wire → slot < 2
-slot_small slot wire lt = slots_by (wire == 36) slot lt
+-- an entry of a list that is put back changed
+changed_is : {A : Type 0} (change : A → A) (xs : List A) (n : ℕ) (x : A) → slice_get xs n ≡ Some x
+    → slice_set xs n (change x) ≡ changed_at n change xs
+changed_is change [] zero x e = cc
+changed_is change [] (suc n) x e = cc
+changed_is change (y ∷ ys) zero x e = let same : x ≡ y = cc in ap (λ z. change z ∷ ys) same
+changed_is change (y ∷ ys) (suc n) x e = ap (λ zs. y ∷ zs) (changed_is change ys n x e)
 
 -- a delayed pair in a slot is put back with a bit of a wire changed
-pub with_wire : (p q : Paired State In Out) (place : Place) (slot wire k : ℕ) (x : In × Out) → slot < 2 → wire ≢ 36
-    → q ≡ with_delayed p slot x → x ≡ wire_flip wire k (delayed_in p slot)
-    → whole_in q place ≡ delay_flip core_parts (wire == 36) (slot == 0) wire k (whole_in p place)
+pub with_wire : (p q : Paired State In Out) (place : Place) (slot wire k : ℕ) (x y : In × Out) → wire ≢ 36 → wire ≢ 37
+    → q ≡ with_delayed p slot x → x ≡ wire_flip wire k y → slice_get p.delayed slot ≡ Some y
+    → whole_in q place ≡ delay_flip core_parts (wire == 36) (wire == 37) slot wire k (whole_in p place)
 unfolding core_parts
-with_wire p q place zero wire k x lt ne h e =
-    rw (ne_eqb wire 36 ne)
-    (ap (λ (r : Paired State In Out). whole_in r place) h ∙ ap (λ (y : In × Out). whole_in (record p { older = y })
-    place) e)
-with_wire p q place (suc zero) wire k x lt ne h e =
-    rw (ne_eqb wire 36 ne)
-    (ap (λ (r : Paired State In Out). whole_in r place) h ∙ ap (λ (y : In × Out). whole_in (record p { newer = y })
-    place) e)
-with_wire p q place (suc (suc slot)) wire k x lt ne h e = absurd (omega arith)
+with_wire p q place slot wire k x y age told h e there =
+    rw (ne_eqb wire 36 age, ne_eqb wire 37 told)
+    (ap (λ (r : Paired State In Out). whole_in r place) h
+    ∙ ap (λ (z : In × Out). whole_in (record p { delayed = slice_set p.delayed slot z }) place) e
+    ∙ ap (λ (l : List (In × Out)). whole_in (record p { delayed = l }) place)
+    (changed_is (wire_flip wire k) p.delayed slot y there))

@@ -8,28 +8,33 @@ use Rattle.ibx_soc.specs.Seen.{PendingFits}
 use Rattle.std.specs.Prelude.{Some}
 
 -- the bit of a field of main
-pub main_bit : (n field bit : ℕ) → site_fits n (site.Main field bit) ≡ true → bit < width_in fields field
+pub main_bit : (n delay field bit : ℕ) → site_fits n delay (site.Main field bit) ≡ true → bit < width_in fields field
 unfolding site_fits ranges
-main_bit n field bit h = (in_ranges (ranged bit 0 (width_in fields field)) [] h).1
+main_bit n delay field bit h = (in_ranges (ranged bit 0 (width_in fields field)) [] h).1
 
 -- the same of the shadow
-pub shadow_bit : (n field bit : ℕ) → site_fits n (site.Shadow field bit) ≡ true → bit < width_in fields field
+pub shadow_bit : (n delay field bit : ℕ)
+    → site_fits n delay (site.Shadow field bit) ≡ true → bit < width_in fields field
 unfolding site_fits ranges
-shadow_bit n field bit h = (in_ranges (ranged bit 0 (width_in fields field)) [] h).1
+shadow_bit n delay field bit h = (in_ranges (ranged bit 0 (width_in fields field)) [] h).1
 
 -- the slot of a delayed wire
-pub delay_slot : (n slot wire bit : ℕ) → site_fits n (site.Delay slot wire bit) ≡ true → slot < slots wire
+pub delay_slot : (n delay slot wire bit : ℕ)
+    → site_fits n delay (site.Delay slot wire bit) ≡ true → slot < slots delay wire
 unfolding site_fits ranges
-delay_slot n slot wire bit h = (in_ranges (ranged slot 0 (slots wire)) (ranged bit 0 (width_in wires wire) ∷ []) h).1
+delay_slot n delay slot wire bit h =
+    (in_ranges (ranged slot 0 (slots delay wire)) (ranged bit 0 (width_in wires wire) ∷ []) h).1
 
 -- the bit of a delayed wire
-pub delay_bit : (n slot wire bit : ℕ) → site_fits n (site.Delay slot wire bit) ≡ true → bit < width_in wires wire
+pub delay_bit : (n delay slot wire bit : ℕ)
+    → site_fits n delay (site.Delay slot wire bit) ≡ true → bit < width_in wires wire
 unfolding site_fits ranges
-delay_bit n slot wire bit h =
-    (in_ranges (ranged bit 0 (width_in wires wire)) [] (in_ranges (ranged slot 0 (slots wire))
+delay_bit n delay slot wire bit h =
+    (in_ranges (ranged bit 0 (width_in wires wire)) [] (in_ranges (ranged slot 0 (slots delay wire))
     (ranged bit 0 (width_in wires wire) ∷ []) h).2).1
 
 -- the word and the bit of an output word
-pub pending_fits : (n wire bit : ℕ) → site_fits n (site.Output wire bit) ≡ true → PendingFits (Some (wire, bit))
+pub pending_fits : (n delay wire bit : ℕ)
+    → site_fits n delay (site.Output wire bit) ≡ true → PendingFits (Some (wire, bit))
 unfolding site_fits ranges
-pending_fits n wire bit h = output_fits wire bit (in_ranges (ranged bit 0 (width_in outputs wire)) [] h).1
+pending_fits n delay wire bit h = output_fits wire bit (in_ranges (ranged bit 0 (width_in outputs wire)) [] h).1

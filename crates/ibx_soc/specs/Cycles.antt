@@ -6,7 +6,7 @@ use Rattle.ibx_isa.specs.declared.event.Event.TheVariants.{Retire, Trap, Irq}
 use Rattle.ibx_core.specs.declared.state.State.{State}
 use Rattle.ibx_core.specs.Wires.{OutWires as Out}
 use Rattle.ibx_flips.specs.Core.{core_parts}
-use Rattle.ibx_flips.specs.System.{Whole, fetch_of, load_store_of, is_told, next, output_of}
+use Rattle.ibx_flips.specs.System.{Whole, fetch_of, load_store_of, next, output_of}
 use Rattle.ibx_soc.specs.declared.cycle.BusOut.{BusOut}
 use Rattle.ibx_soc.specs.declared.cycle.Cycle.{Cycle}
 
@@ -37,6 +37,7 @@ happens_at c (Some e) = Some (at_cycle c e)
 abbrev pub cycle_by : ℕ → Bool → Out → Cycle
 cycle_by c told o = record { bus = bus_of o; alerts = alerts_with told o.alerts; event = happens_at c o.event }
 
--- the step's cycle: its requests, its alerts, and its event with the number of steps made before
+-- the step's cycle: its requests, its alerts with what the step before found, and its event with the number of steps
+-- made before
 unfoldable pub cycle_of : Whole State → Cycle
-cycle_of w = cycle_by w.place.cycle (is_told core_parts w) (output_of core_parts w)
+cycle_of w = cycle_by w.place.cycle w.told (output_of core_parts w)

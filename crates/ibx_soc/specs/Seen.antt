@@ -24,8 +24,15 @@ place_of m = record {
 
 -- the whole system
 abbrev pub whole_in : Paired State In Out → Place → Whole State
-whole_in p place =
-    record { main = p.main; shadow = p.shadow; older = p.older; newer = p.newer; age = p.age; place = place }
+whole_in p place = record {
+  main = p.main;
+  shadow = p.shadow;
+  delayed = p.delayed;
+  delay = p.delay;
+  age = p.age;
+  told = p.told;
+  place = place;
+}
 
 -- the same from the pair of cores
 abbrev pub whole_with : Pair State In Out → Place → Whole State
@@ -48,7 +55,7 @@ pub record Sizes (m : Memories) : Type 0 where
   pub pending : PendingFits m.pending
   pub mul : m.mul ≤ 2
 
--- what holds of every system: the sizes, and an age of two bits
+-- what holds of every system: the sizes, and an age of three bits
 pub record IsSound (pair : Pair State In Out) (m : Memories) : Type 0 where
   pub sizes : Sizes m
-  pub age : (seen pair).age < 4
+  pub age : (seen pair).age < 8

@@ -1,5 +1,6 @@
 use ibx_elf::Ram;
 use ibx_isa::MulKind;
+use ibx_lockstep::Delay;
 
 /// What a system is built with.
 #[derive(Clone, Copy, Debug, PartialEq, Eq)]
@@ -7,4 +8,6 @@ pub struct Config {
     /// The byte addresses that are RAM.
     pub ram: Ram,
     pub mul: MulKind,
+    /// By how many cycles the shadow is behind main.
+    pub delay: Delay,
 }

@@ -1,4 +1,4 @@
-ghost use Rattle.std.specs.Prelude.{◌≡◌, ◌<◌, ◌^◌, ◌+◌, ◌*◌, ◌%◌, ◌≤◌, ◌/◌, All, length, true, IfOk};
+ghost use Rattle.std.specs.Prelude.{◌≡◌, ◌<◌, ◌^◌, ◌+◌, ◌*◌, ◌%◌, ◌≤◌, ◌/◌, ℕ, All, length, true, IfOk};
 ghost use Rattle.ibx_plan.specs.Sites.{site_fits};
 ghost use Rattle.ibx_flips.specs.System.{changed, dgrant_of, igrant_of, settle, shown};
 ghost use Rattle.ibx_flips.specs.Core.{core_parts};
@@ -118,19 +118,19 @@ impl<'p> Memories<'p> {
         (igrant, dgrant)
     }
 
-    /// Whether there is such a bit.
-    pub(crate) fn has(&self, site: &Site) -> bool
+    /// Whether there is such a bit in a system with this delay.
+    pub(crate) fn has(&self, site: &Site, delay: u8) -> bool
         requires { Sizes self.now }
-        ensures { result ≡ site_fits (length self.now.memory.words) site.now }
+        ensures { result ≡ site_fits (length self.now.memory.words) delay site.now }
     {
-        site.fits(self.ram_words)
+        site.fits(self.ram_words, delay)
     }
 
     /// Changes a bit of a word, where the site names one.
     #[tactic(auto, unfolding(ibx_flips::specs::Flips::place_flip, ibx_plan::specs::Sites::site_fits, ibx_plan::specs::Sites::ranges))]
     pub(crate) fn flip(&mut self, site: &Site)
         requires sizes { Sizes self.old }
-        requires fits { site_fits (length self.old.memory.words) site.now ≡ true }
+        requires fits { (delay : ℕ) × (site_fits (length self.old.memory.words) delay site.now ≡ true) }
         ensures place { place_of self.new ≡ place_flip site.now (place_of self.old) }
         ensures sizes { Sizes self.new }
     {

@@ -23,8 +23,8 @@ use ibx_plan::{Plan, Site};
 use std::alloc::Global;
 use std::marker::Model;
 
-/// The system: main and its shadow, which is two cycles behind, with the register file, the cache's memories, RAM and
-/// both bus ports, over the plan of a run.
+/// The system: main and its shadow, which is one to four cycles behind, with the register file, the cache's memories,
+/// RAM and both bus ports, over the plan of a run.
 #[derive(Drop)]
 pub struct Soc<'p> {
     pair: Pair<Core>,
@@ -47,21 +47,25 @@ impl<'p> Model for Soc<'p> {
     ghost invariant = { λ soc. IsSound soc.pair soc.memories };
 }
 
-// The number of the age of the delayed pairs among the delayed wires.
+// The number of the age of the delayed pairs among the delayed wires, and that of what the cycle before found.
 const AGE: u8 = 36;
 
-// Changes a bit of a delayed wire, or of the age of the delayed pairs.
-#[tactic(auto, using(crate::proofs::Bits::age_bit, crate::proofs::Bits::wire_inside, crate::proofs::Delayed::with_wire))]
+const TOLD: u8 = 37;
+
+// Changes a bit of a delayed wire, of the age of the delayed pairs, or of what the cycle before found.
+#[tactic(auto, using(crate::proofs::Bits::age_bit, crate::proofs::Bits::wire_inside, crate::proofs::Delayed::slot_inside))]
 fn flip_delay(pair: &mut Pair<Core>, slot: u8, wire: u8, bit: u8)
-    requires slot { slot < slots wire }
+    requires slot { slot < slots (seen pair.old).delay wire }
     requires bit { bit < width_in wires wire }
-    requires age { (seen pair.old).age < 4 }
+    requires age { (seen pair.old).age < 8 }
     ensures made { (place : Place) → whole_with pair.new place ≡ delay_flip core_parts (wire == 36)
-        (slot == 0) wire bit (whole_with pair.old place) }
-    ensures age { (seen pair.new).age < 4 }
+        (wire == 37) slot wire bit (whole_with pair.old place) }
+    ensures age { (seen pair.new).age < 8 }
 {
     if wire == AGE {
         pair.set_age(flipped_age(pair.age(), bit));
+    } else if wire == TOLD {
+        pair.set_told(!pair.told());
     } else {
         let (i, o) = pair.delay(slot);
         let (i, o) = with_wire_flip(&i, &o, wire, bit);
@@ -71,10 +75,10 @@ fn flip_delay(pair: &mut Pair<Core>, slot: u8, wire: u8, bit: u8)
 
 #[tactic(auto, using(crate::proofs::Bits::age_changed, crate::proofs::Bits::age_fits))]
 fn flipped_age(age: u8, bit: u8) -> u8
-    requires bit { bit < 2 }
-    requires fits { age < 4 }
+    requires bit { bit < 3 }
+    requires fits { age < 8 }
     ensures value { result ≡ bit_xor age (2 ^ bit) }
-    ensures fits { result < 4 }
+    ensures fits { result < 8 }
 {
     age ^ (1 << bit)
 }
@@ -97,7 +101,7 @@ impl<'p> Soc<'p> {
         let memories = Memories::new(alloc, image, config.mul, plan)?;
         let core = Core::reset(image.entry());
         Ok(Soc {
-            pair: Pair::new(core, core, In::quiet(), Out::quiet()),
+            pair: Pair::new(core, core, config.delay, In::quiet(), Out::quiet()),
             memories,
             out: Out::quiet(),
             own: Out::quiet(),
@@ -105,7 +109,7 @@ impl<'p> Soc<'p> {
     }
 
     /// Makes one cycle, whose number is below 2^62. Each core makes its cycle once, and in place.
-    #[tactic(auto, unfolding(crate::specs::Cycles::cycle_of, ibx_flips::specs::Core::core_parts, ibx_flips::specs::System::next, ibx_lockstep::specs::Paired::is_told, ibx_lockstep::specs::Paired::stepped))]
+    #[tactic(auto, unfolding(crate::specs::Cycles::cycle_of, ibx_flips::specs::Core::core_parts, ibx_flips::specs::System::next, ibx_lockstep::specs::Paired::finds, ibx_lockstep::specs::Paired::stepped))]
     pub fn step(&mut self) -> Cycle
         requires { self.old.place.cycle < 2 ^ 62 }
         ensures shown { result ≡ cycle_of self.old }
@@ -128,11 +132,12 @@ impl<'p> Soc<'p> {
     /// change of an output word is made in the next cycle; a later one before that cycle takes its place.
     #[tactic(auto, unfolding(ibx_flips::specs::Flips::flip, ibx_flips::specs::Core::core_parts, ibx_plan::specs::Sites::site_fits, ibx_plan::specs::Sites::ranges), using(crate::proofs::Bits::field_inside))]
     pub fn flip(&mut self, site: &Site) -> bool
-        ensures fits { result ≡ site_fits (length self.old.place.memory.words) site.now }
+        ensures fits { result ≡ site_fits (length self.old.place.memory.words) self.old.delay site.now }
         ensures made { result ≡ true → self.new ≡ flip core_parts site.now self.old }
         ensures kept { result ≡ false → self.new ≡ self.old }
     {
-        if !self.memories.has(site) {
+        let delay = self.pair.behind();
+        if !self.memories.has(site, delay) {
             return false;
         }
         match *site {
@@ -142,6 +147,13 @@ impl<'p> Soc<'p> {
             _ => self.memories.flip(site),
         }
         true
+    }
+
+    /// The cycles by which the shadow is behind main.
+    pub fn delay(&self) -> u8
+        ensures { result ≡ self.now.delay }
+    {
+        self.pair.behind()
     }
 
     /// The number of cycles made, which is that of the next one.

@@ -1,6 +1,7 @@
 use crate::{Config, Soc};
 use ibx_elf::{Image, Ram, load};
 use ibx_isa::{Alerts, MulKind, Req};
+use ibx_lockstep::Delay;
 use ibx_plan::{Plan, Site};
 use std::process::Abort;
 
@@ -50,6 +51,7 @@ fn requests_and_events_of_three_instructions(rt: HostRuntime) {
     let config = Config {
         ram: image.ram(),
         mul: MulKind::Fast,
+        delay: Delay::Two,
     };
     let mut soc = Soc::new(rt.alloc(), &image, &config, &plan).expect(&rt, "memory");
     let rows = [
@@ -70,21 +72,23 @@ fn requests_and_events_of_three_instructions(rt: HostRuntime) {
     }
 }
 
-// A flipped bit of the store's register number makes main differ from its shadow two cycles later.
+// A flipped bit of the store's register number makes main differ from its shadow, and this is told three cycles later.
 #[test]
-fn a_flip_is_told_two_cycles_later(rt: HostRuntime) {
+fn a_flip_is_told_three_cycles_later(rt: HostRuntime) {
     let image = image(&rt);
     let plan = Plan::empty(rt.alloc());
     let config = Config {
         ram: image.ram(),
         mul: MulKind::Fast,
+        delay: Delay::Two,
     };
     let mut soc = Soc::new(rt.alloc(), &image, &config, &plan).expect(&rt, "memory");
+    assert_eq!(rt; soc.delay(), 2);
     let next_pc = 31;
     assert_eq!(rt; soc.main().get(next_pc), 0x10_0080);
     assert!(rt; !soc.flip(&Site::Reg { n: 0, bit: 0 }));
     let id_word = 20;
-    for cycle in 0..7 {
+    for cycle in 0..8 {
         if cycle == 4 {
             assert!(rt;
                 soc.flip(&Site::Main {
@@ -94,7 +98,7 @@ fn a_flip_is_told_two_cycles_later(rt: HostRuntime) {
             );
         }
         assert_eq!(rt; soc.cycle(), cycle);
-        let alerts = if cycle == 6 {
+        let alerts = if cycle == 7 {
             Alerts::INTERNAL
         } else {
             Alerts(0)

@@ -17,6 +17,7 @@ use Rattle.ibx_top.specs.Answers.{IfTwin, IsTwin, TellsTime}
 use Rattle.ibx_top.specs.declared.outcome.Outcome.TheVariants.{Written, TextTooLong, TextRefused}
 use Rattle.ibx_top.specs.Answers.{Answer, IfInject, Notices, refusal, IsAnswer, codes_of, IsOneOf, IsThere, AreThere}
 use Rattle.ibx_top.specs.Answers.{IsAmong, Gives, IsCutShort, Says, names_of}
+use Rattle.ibx_lockstep.specs.Delays.{cycles_of}
 use Rattle.ibx_top.specs.Outcomes.{EndsNoticed, code_of, err_line_of, seal_in, IfUnread, IsPastReading, IfAnswered}
 use Rattle.ibx_top.specs.Outcomes.{IfUnwritten, Settles, Prints, Reads, Fits}
 use Rattle.ibx_top.proofs.Gains.{none_more}
@@ -359,34 +360,35 @@ not_run : (code other : ℕ) → code ≡ other → (IsOneOf (0 ∷ 8 ∷ []) ot
 not_run code other e none one = none (subst (IsOneOf (0 ∷ 8 ∷ [])) e one)
 
 -- an end with status 0 or 8 of an injection is that of its verdict
-notices_by : (outcome : Outcome) (code : ℕ) (before after : Option (List ℕ)) → code ≡ code_of outcome → EndsNoticed
-    outcome before after → IsOneOf (0 ∷ 8 ∷ []) code → Notices code before after
-notices_by (Ran halted seal) code before after e h one = absurd h
-notices_by (Injected alert) code before after e h one = subst (λ (n : ℕ). Notices n before after) (sym e) h
-notices_by (Compared differ seal) code before after e h one = absurd h
-notices_by BadWords code before after e h one = absurd (not_run code 2 e impossible one)
-notices_by (CannotRead name) code before after e h one = absurd (not_run code 3 e impossible one)
-notices_by CannotWrite code before after e h one = absurd (not_run code 4 e impossible one)
-notices_by (TooLong name) code before after e h one = absurd (not_run code 5 e impossible one)
-notices_by (Refused name fault) code before after e h one = absurd (not_run code 5 e impossible one)
-notices_by (PlanTooLong name) code before after e h one = absurd (not_run code 6 e impossible one)
-notices_by (PlanRefused name fault) code before after e h one = absurd (not_run code 6 e impossible one)
-notices_by OutOfMemory code before after e h one = absurd (not_run code 7 e impossible one)
-notices_by Written code before after e h one = absurd h
-notices_by (TextTooLong name) code before after e h one = absurd (not_run code 12 e impossible one)
-notices_by (TextRefused name fault) code before after e h one = absurd (not_run code 12 e impossible one)
+notices_by : (delay : ℕ) (outcome : Outcome) (code : ℕ) (before after : Option (List ℕ)) → code ≡ code_of outcome
+    → EndsNoticed delay outcome before after → IsOneOf (0 ∷ 8 ∷ []) code → Notices delay code before after
+notices_by delay (Ran halted seal) code before after e h one = absurd h
+notices_by delay (Injected alert) code before after e h one = subst (λ (n : ℕ). Notices delay n before after) (sym e) h
+notices_by delay (Compared differ seal) code before after e h one = absurd h
+notices_by delay BadWords code before after e h one = absurd (not_run code 2 e impossible one)
+notices_by delay (CannotRead name) code before after e h one = absurd (not_run code 3 e impossible one)
+notices_by delay CannotWrite code before after e h one = absurd (not_run code 4 e impossible one)
+notices_by delay (TooLong name) code before after e h one = absurd (not_run code 5 e impossible one)
+notices_by delay (Refused name fault) code before after e h one = absurd (not_run code 5 e impossible one)
+notices_by delay (PlanTooLong name) code before after e h one = absurd (not_run code 6 e impossible one)
+notices_by delay (PlanRefused name fault) code before after e h one = absurd (not_run code 6 e impossible one)
+notices_by delay OutOfMemory code before after e h one = absurd (not_run code 7 e impossible one)
+notices_by delay Written code before after e h one = absurd h
+notices_by delay (TextTooLong name) code before after e h one = absurd (not_run code 12 e impossible one)
+notices_by delay (TextRefused name fault) code before after e h one = absurd (not_run code 12 e impossible one)
 
 -- what an injection prints is noticed
 pub notices : (command : Option Meaning) (outcome : Outcome) (code : ℕ) (before after : Option (List ℕ)) → code ≡
-    code_of outcome → IfInject command (EndsNoticed outcome before after)
-    → IfInject command (IsOneOf (0 ∷ 8 ∷ []) code → Notices code before after)
+    code_of outcome → IfInject command (λ options. EndsNoticed (cycles_of options.delay) outcome before after)
+    → IfInject command (λ options. IsOneOf (0 ∷ 8 ∷ []) code → Notices (cycles_of options.delay) code before after)
 notices None outcome code before after e h = tt
 notices (Some (Running name plan options)) outcome code before after e h = tt
 notices (Some (Twinning first second plan options)) outcome code before after e h = tt
 notices (Some (Generating seed options)) outcome code before after e h = tt
 notices (Some (Assembling name)) outcome code before after e h = tt
 notices (Some (Disassembling name ram)) outcome code before after e h = tt
-notices (Some (Injecting name plan options)) outcome code before after e h = notices_by outcome code before after e h
+notices (Some (Injecting name plan options)) outcome code before after e h =
+    notices_by (cycles_of options.delay) outcome code before after e h
 
 -- ---- the answer that a status tells of
 

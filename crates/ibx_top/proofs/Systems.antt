@@ -6,6 +6,7 @@ use Rattle.ibx_secded.specs.Code.{encode_of}
 use Rattle.ibx_plan.specs.declared.site.Flip.{Flip}
 use Rattle.ibx_plan.specs.Plan.{PlanValue}
 use Rattle.ibx_core.specs.declared.state.State.{State}
+use Rattle.ibx_lockstep.specs.Delays.{cycles_of}
 use Rattle.ibx_flips.specs.System.{Whole}
 use Rattle.ibx_command.specs.declared.options.Options.{Options}
 use Rattle.ibx_compare.specs.declared.flipped.Verdict.{Verdict}
@@ -26,6 +27,12 @@ pub memory_size : (image : Placed) (config : Config) (plan : PlanValue) → leng
 unfolding first
 memory_size image config plan = length-map (image_words image) (λ (v : ℕ). encode_of 32 7 v) ∙ words_length image
     image.ram.base (image.ram.size / 4)
+
+-- the delay is that of the configuration
+pub first_delay : (image : Placed) (config : Config) (plan : PlanValue)
+    → (first image config plan).delay ≡ cycles_of config.delay
+unfolding first
+first_delay image config plan = refl
 
 -- the verdict on a system that is as it was opened, with the plan's flip, is that on the image and the plan
 pub verdict_is : (options : Options) (plan : PlanValue) (image : Placed) (clean : Whole State) (flip : Option Flip)

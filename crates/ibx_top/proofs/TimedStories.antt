@@ -221,7 +221,7 @@ pub opened_is_history : (options : Options) (plan : PlanValue) (image : Placed)
     → IsHistory (setup_of options plan image) (system_of image options plan)
 opened_is_history options plan image placed =
     let s : Setup = setup_of options plan image in two_core_laws s placed (system_of image options plan)
-    (starts s placed)
+    (starts s options.delay placed)
 
 -- a run ends with status 0 or 1
 pub runs_or_spends : (halted : Bool) → IsOneOf (0 ∷ 1 ∷ 8 ∷ 9 ∷ []) (halt_code halted)

@@ -1,6 +1,6 @@
 -- What the program answers to the bytes of its files, and the words of its contract (the statuses are our own rule).
-use Rattle.std.specs.Prelude.{⊤, ◌≡◌, ℕ, ◌/◌, Bool, true, false, ◌==◌, nat_lt, List, [], ◌∷◌, length, Option, Some}
-use Rattle.std.specs.Prelude.{None, is_some, Result, Ok, Err, if◌then◌else◌, IsSome, IsTrue, ◌⊎◌}
+use Rattle.std.specs.Prelude.{⊤, ◌≡◌, ℕ, ◌+◌, ◌/◌, Bool, true, false, ◌==◌, nat_lt, List, [], ◌∷◌, length, Option}
+use Rattle.std.specs.Prelude.{Some, None, is_some, Result, Ok, Err, if◌then◌else◌, IsSome, IsTrue, ◌⊎◌}
 use Rattle.std.specs.List.{list_any}
 use Rattle.ibx_base.specs.Counts.{Rose}
 use Rattle.ibx_base.specs.Files.{Contents, IsContent}
@@ -19,6 +19,7 @@ use Rattle.ibx_compare.specs.declared.comparison.Twin.{Twin}
 use Rattle.ibx_gen.specs.Image.{default_ram}
 use Rattle.ibx_gen.specs.Words.{generated}
 use Rattle.ibx_compare.specs.declared.flipped.Verdict.{Verdict}
+use Rattle.ibx_lockstep.specs.Delays.{cycles_of}
 use Rattle.ibx_compare.specs.Verdicts.{IsNoticed}
 use Rattle.ibx_time.specs.Settings.{Setup}
 use Rattle.ibx_top.specs.declared.task.Task.{Task}
@@ -149,9 +150,14 @@ abbrev pub flips_of : Task → ℕ
 flips_of Run = 0
 flips_of Inject = 1
 
--- what a plan is read within: the words of RAM, the flips of its command, and the budget of cycles
+-- what a plan is read within: the words of RAM, the delay, the flips of its command, and the budget of cycles
 abbrev pub bounds_of : Task → Options → Bounds
-bounds_of task options = record { ram_words = options.ram.size / 4; flips = flips_of task; cycles = options.cycles }
+bounds_of task options = record {
+  ram_words = options.ram.size / 4;
+  delay = cycles_of options.delay;
+  flips = flips_of task;
+  cycles = options.cycles;
+}
 
 -- the answer of a command to the text of its plan and the bytes of its file: that to the plan comes first
 unfoldable pub planned_answer : Task → List ℕ → List ℕ → Options → List ℕ → List ℕ → Answer
@@ -317,9 +323,9 @@ codes_of (Some (Generating number options)) = 0 ∷ 1 ∷ 4 ∷ 7 ∷ []
 codes_of (Some (Assembling name)) = 0 ∷ 3 ∷ 4 ∷ 7 ∷ 12 ∷ []
 codes_of (Some (Disassembling name ram)) = 0 ∷ 3 ∷ 4 ∷ 5 ∷ 7 ∷ []
 
--- a fact where the words are those of `inject`
-abbrev pub IfInject : Option Meaning → Type 0 → Type 0
-IfInject (Some (Injecting name plan options)) P = P
+-- a fact where the words are those of `inject`, about the options
+abbrev pub IfInject : Option Meaning → (Options → Type 0) → Type 0
+IfInject (Some (Injecting name plan options)) P = P options
 IfInject _ P = ⊤
 
 -- a fact where the words are those of `twin`, about both files, the plan if there is one, and the options
@@ -357,11 +363,11 @@ pub record IsCutShort (answer : Answer) (before after : Option (List ℕ)) : Typ
   pub runs : IsOneOf (0 ∷ 1 ∷ 8 ∷ 9 ∷ []) answer.code
   pub text : TookPrefix before answer.text after
 
--- The output took the text of a verdict in which the bus doesn't differ without an alert, which comes at most two
--- cycles after the first difference, and the status says whether there is one.
-pub record Notices (code : ℕ) (before after : Option (List ℕ)) : Type 0 where
+-- The output took the text of a verdict in which the bus doesn't differ without an alert, which comes at most the delay
+-- plus one cycles after the first difference, and the status says whether there is one.
+pub record Notices (delay code : ℕ) (before after : Option (List ℕ)) : Type 0 where
   pub verdict : Verdict
-  pub noticed : IsNoticed verdict
+  pub noticed : IsNoticed (delay + 1) verdict
   pub status : code ≡ alert_code (is_some verdict.first_alert)
   pub text : after ≡ with_more before (verdict_text verdict)
 

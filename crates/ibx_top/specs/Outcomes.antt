@@ -106,13 +106,13 @@ pub record Settles (answer : Answer) (end : Outcome) (before after : Option (Lis
   pub seal : seal_in end ≡ answer.seal
   pub text : after ≡ with_more before answer.text
 
--- an injection ends by its verdict, or without a run
-abbrev pub EndsNoticed : Outcome → Option (List ℕ) → Option (List ℕ) → Type 0
-EndsNoticed (Ran halted seal) before after = ⊥
-EndsNoticed (Injected alert) before after = Notices (alert_code alert) before after
-EndsNoticed (Compared differ seal) before after = ⊥
-EndsNoticed Written before after = ⊥
-EndsNoticed _ before after = ⊤
+-- an injection with this delay ends by its verdict, or without a run
+abbrev pub EndsNoticed : ℕ → Outcome → Option (List ℕ) → Option (List ℕ) → Type 0
+EndsNoticed delay (Ran halted seal) before after = ⊥
+EndsNoticed delay (Injected alert) before after = Notices delay (alert_code alert) before after
+EndsNoticed delay (Compared differ seal) before after = ⊥
+EndsNoticed delay Written before after = ⊥
+EndsNoticed delay _ before after = ⊤
 
 -- a fact of an injection
 abbrev pub IfInjecting : Task → Type 0 → Type 0

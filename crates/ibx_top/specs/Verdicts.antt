@@ -39,9 +39,10 @@ alert_line (Some first) = codes "alert " ++ decimal first.0 ++ codes " " ++ kind
 abbrev pub verdict_text : Verdict → List ℕ
 verdict_text v = diff_line v.first_diff ++ alert_line v.first_alert
 
--- the system of a run: the RAM of the image, and the multiplier of the options
+-- the system of a run: the RAM of the image, and the multiplier and the delay of the options
 abbrev pub system_of : Placed → Options → PlanValue → Whole State
-system_of image options plan = first image (record { ram = image.ram; mul = options.mul }) plan
+system_of image options plan =
+    first image (record { ram = image.ram; mul = options.mul; delay = options.delay }) plan
 
 -- what a flip comes to in so many cycles of a system; without one, nothing differs
 unfoldable pub verdict_by : Whole State → ℕ → Option Flip → Verdict

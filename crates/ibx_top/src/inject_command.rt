@@ -1,7 +1,8 @@
 //! An image run twice, with and without the flip of a plan.
-ghost use Rattle.std.specs.Prelude.{◌≡◌, ◌≤◌, ◌<◌, length, true, IfSome};
+ghost use Rattle.std.specs.Prelude.{◌≡◌, ◌+◌, ◌≤◌, ◌<◌, length, true, IfSome};
 ghost use Rattle.ibx_plan.specs.Plan.{FlipFits};
 ghost use Rattle.ibx_plan.specs.Sites.{site_fits};
+ghost use Rattle.ibx_lockstep.specs.Delays.{cycles_of};
 ghost use Rattle.ibx_soc.specs.First.{IsAsNew};
 ghost use Rattle.ibx_compare.specs.Verdicts.{IsNoticed};
 ghost use Rattle.ibx_top.specs.Verdicts.{verdict_by};
@@ -29,9 +30,9 @@ fn compare(clean: &mut Soc<'_>, faulty: &mut Soc<'_>, flip: Option<Flip>, cycles
     requires some { 1 ≤ cycles }
     requires most { cycles ≤ 1000000000 }
     requires below { IfSome flip (λ f. f.cycle < cycles) }
-    requires fits { IfSome flip (λ f. site_fits (length clean.old.place.memory.words) f.site ≡ true) }
+    requires fits { IfSome flip (λ f. site_fits (length clean.old.place.memory.words) clean.old.delay f.site ≡ true) }
     ensures value { result ≡ verdict_by clean.old cycles flip }
-    ensures noticed { IsNoticed result }
+    ensures noticed { IsNoticed (clean.old.delay + 1) result }
 {
     match flip {
         Some(flip) => inject(clean, faulty, &flip, cycles),
@@ -43,7 +44,7 @@ fn compare(clean: &mut Soc<'_>, faulty: &mut Soc<'_>, flip: Option<Flip>, cycles
 }
 
 /// Runs an image with and without the flip of a plan.
-#[tactic(auto, using(crate::proofs::Systems::memory_size))]
+#[tactic(auto, using(crate::proofs::Systems::memory_size, crate::proofs::Systems::first_delay))]
 pub(crate) fn inject_image<'w, K: Sink>(
     alloc: Global,
     image: &Image<'_>,
@@ -55,7 +56,7 @@ pub(crate) fn inject_image<'w, K: Sink>(
     requires ram { image.now.ram ≡ options.ram }
     requires flip { IfSome plan.now.flip (FlipFits (bounds_of Inject options)) }
     ensures past { IsPastReading result }
-    ensures noticed { EndsNoticed result (K.taken out.old) (K.taken out.new) }
+    ensures noticed { EndsNoticed (cycles_of options.delay) result (K.taken out.old) (K.taken out.new) }
     ensures prints { Prints K.taken K.faults (λ answer. answer ≡ injected_by options plan.now image.now) result out.old
         out.new }
 {

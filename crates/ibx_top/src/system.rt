@@ -10,8 +10,8 @@ use ibx_plan::Plan;
 use ibx_soc::{Config, Soc};
 use std::alloc::Global;
 
-/// The two cores at reset with an image in RAM, the multiplier of the options, and a plan, whose flip isn't made. An
-/// `Err` means that there was no memory.
+/// The two cores at reset with an image in RAM, the multiplier and the delay of the options, and a plan, whose flip
+/// isn't made. An `Err` means that there was no memory.
 pub(crate) fn open_system<'p>(
     alloc: Global,
     image: &Image<'_>,
@@ -24,6 +24,7 @@ pub(crate) fn open_system<'p>(
     let config = Config {
         ram: image.ram(),
         mul: options.mul,
+        delay: options.delay,
     };
     Soc::new(alloc, image, &config, plan)
 }

@@ -1,6 +1,7 @@
 //! What a command does with its plan and its file, in the order in which they are read.
 ghost use Rattle.std.specs.Prelude.{◌≡◌, ◌≤◌, [], ◌∷◌, length, IfSome};
 ghost use Rattle.ibx_plan.specs.Plan.{FlipFits};
+ghost use Rattle.ibx_lockstep.specs.Delays.{cycles_of};
 ghost use Rattle.ibx_machine.specs.Whole.{IsPlaced};
 ghost use Rattle.ibx_matching.specs.Projection.{AreWords};
 ghost use Rattle.ibx_command.specs.Options.{IsInRange};
@@ -48,7 +49,8 @@ fn do_image<'w, K: Sink>(
     requires flip { IfSome plan.now.flip (FlipFits (bounds_of task options)) }
     requires placed { IsPlaced (setup_of options plan.now image.now) }
     ensures past { IsPastReading result }
-    ensures noticed { IfInjecting task (EndsNoticed result (K.taken out.old) (K.taken out.new)) }
+    ensures noticed { IfInjecting task
+        (EndsNoticed (cycles_of options.delay) result (K.taken out.old) (K.taken out.new)) }
     ensures prints { Prints K.taken K.faults (λ answer. answer ≡ done task options plan.now image.now) result out.old
         out.new }
 {
@@ -73,7 +75,8 @@ fn do_bytes<'w, K: Sink>(
     requires words { AreWords plan.now.changes }
     requires fits { length bytes.now ≤ file_limit }
     ensures past { IsPastReading result }
-    ensures noticed { IfInjecting task (EndsNoticed result (K.taken out.old) (K.taken out.new)) }
+    ensures noticed { IfInjecting task
+        (EndsNoticed (cycles_of options.delay) result (K.taken out.old) (K.taken out.new)) }
     ensures prints { Prints K.taken K.faults (λ answer. answer ≡ file_answer name.now options.ram
         (done task options plan.now) bytes.now)
         result out.old out.new }
@@ -99,7 +102,8 @@ fn do_plan<'w, F: Files, K: Sink>(
     requires flip { IfSome plan.now.flip (FlipFits (bounds_of task options)) }
     requires masks { AreWords plan.now.changes }
     ensures words { IfBadWords result ⊥ }
-    ensures noticed { IfInjecting task (EndsNoticed result (K.taken out.old) (K.taken out.new)) }
+    ensures noticed { IfInjecting task
+        (EndsNoticed (cycles_of options.delay) result (K.taken out.old) (K.taken out.new)) }
     ensures reads { Reads F.contents F.begun F.faults F.misses (name.now ∷ []) result files.old files.new }
     ensures prints { Prints K.taken K.faults (IsAnswerTo (F.contents files.old) name.now
         (file_answer name.now options.ram (done task options plan.now))) result out.old out.new }
@@ -118,6 +122,7 @@ pub(crate) fn bounds_of(task: Task, options: Options) -> Bounds
 {
     Bounds {
         ram_words: options.ram.size / 4,
+        delay: options.delay.cycles(),
         flips: match task {
             Task::Run => 0,
             Task::Inject => 1,
@@ -141,7 +146,8 @@ fn do_text<'w, F: Files, K: Sink>(
     requires range { IsInRange options }
     requires fits { length text.now ≤ plan_limit }
     ensures words { IfBadWords result ⊥ }
-    ensures noticed { IfInjecting task (EndsNoticed result (K.taken out.old) (K.taken out.new)) }
+    ensures noticed { IfInjecting task
+        (EndsNoticed (cycles_of options.delay) result (K.taken out.old) (K.taken out.new)) }
     ensures reads { Reads F.contents F.begun F.faults F.misses (name.now ∷ []) result files.old files.new }
     ensures prints { Prints K.taken K.faults (IsPlannedBy (F.contents files.old) task name.now plan.now options
         text.now)
@@ -168,7 +174,8 @@ pub(crate) fn do_planned<'w, F: Files, K: Sink>(
 ) -> Outcome<'w>
     requires { IsInRange options }
     ensures words { IfBadWords result ⊥ }
-    ensures noticed { IfInjecting task (EndsNoticed result (K.taken out.old) (K.taken out.new)) }
+    ensures noticed { IfInjecting task
+        (EndsNoticed (cycles_of options.delay) result (K.taken out.old) (K.taken out.new)) }
     ensures reads { Reads F.contents F.begun F.faults F.misses (plan.now ∷ name.now ∷ []) result files.old files.new }
     ensures prints { Prints K.taken K.faults (IsPlanned (F.contents files.old) task name.now plan.now options) result
         out.old out.new }

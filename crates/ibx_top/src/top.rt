@@ -3,6 +3,7 @@ ghost use Rattle.std.specs.Prelude.{◌≡◌, ◌↔◌, ◌⊎◌, [], ◌∷�
 ghost use Rattle.ibx_base.specs.Counts.{Rose};
 ghost use Rattle.ibx_base.specs.Files.{IsBegunAs};
 ghost use Rattle.ibx_command.specs.Command.{command_of};
+ghost use Rattle.ibx_lockstep.specs.Delays.{cycles_of};
 ghost use Rattle.ibx_top.specs.ErrLines.{bad_words_line, cannot_read_line, cannot_write_line, out_of_memory_line};
 ghost use Rattle.ibx_top.specs.Answers.{Answer, IsAnswer, IfInject, names_of, codes_of, Gives, IsCutShort, Notices};
 ghost use Rattle.ibx_top.specs.Answers.{IsOneOf, IsAmong, AreThere, Says};
@@ -32,8 +33,8 @@ fn perform<'w, F: Files, K: Sink>(
         files.old files.new }
     ensures prints { Prints K.taken K.faults (IsAnswer (F.contents files.old) (command_of (map string_bytes words.now)))
         result out.old out.new }
-    ensures noticed { IfInject (command_of (map string_bytes words.now))
-        (EndsNoticed result (K.taken out.old) (K.taken out.new)) }
+    ensures noticed { IfInject (command_of (map string_bytes words.now)) (λ options.
+        EndsNoticed (cycles_of options.delay) result (K.taken out.old) (K.taken out.new)) }
 {
     match read_words(words) {
         None => Outcome::BadWords,
@@ -145,9 +146,11 @@ pub fn ibex<F: Files, K: Sink, E: Sink>(
         × (Gives answer result.code result.seal (K.taken out.old) (K.taken out.new)
         × Says (E.taken err.old) (E.taken err.new) (E.faults err.old) (E.faults err.new) answer.line)) }
 
-    // Of `inject`: the bus doesn't differ without an alert, which comes at most two cycles after the first difference.
-    ensures noticed { IfInject (command_of (map string_bytes words.now)) (IsOneOf (0 ∷ 8 ∷ []) result.code
-        → Notices result.code (K.taken out.old) (K.taken out.new)) }
+    // Of `inject`: the bus doesn't differ without an alert, which comes at most the delay plus one cycles after the
+    // first difference.
+    ensures noticed { IfInject (command_of (map string_bytes words.now)) (λ options.
+        IsOneOf (0 ∷ 8 ∷ []) result.code
+        → Notices (cycles_of options.delay) result.code (K.taken out.old) (K.taken out.new)) }
 
     // Of `twin`: the cycles of both stories are the same as far as the answer says that the views are.
     ensures in_time { IfTwin (command_of (map string_bytes words.now)) (λ first second plan options.

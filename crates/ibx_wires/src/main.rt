@@ -93,6 +93,7 @@ fn perform(rt: &HostRuntime, asked: Run<'_>) -> Result<(), Trouble>
     let ram = asked.options.ram;
     let bounds = Bounds {
         ram_words: ram.size / 4,
+        delay: asked.options.delay.cycles(),
         flips: 0,
         cycles: asked.options.cycles,
     };
@@ -102,6 +103,7 @@ fn perform(rt: &HostRuntime, asked: Run<'_>) -> Result<(), Trouble>
     let config = Config {
         ram,
         mul: asked.options.mul,
+        delay: asked.options.delay,
     };
     let mut soc = Soc::new(alloc, &image, &config, &plan).map_err(|_| Trouble::Memory)?;
     let mut out = BufWriter::new(alloc, rt.stdout()).map_err(|_| Trouble::Memory)?;

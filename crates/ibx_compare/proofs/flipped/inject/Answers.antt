@@ -1,4 +1,4 @@
-use Rattle.std.proofs.Common.{Some, None, subst, sym, arith}
+use Rattle.std.proofs.Common.{◌+◌, Some, None, subst, sym, arith}
 use Rattle.ibx_compare.specs.declared.flipped.Verdict.{Verdict}
 use Rattle.ibx_compare.specs.Verdicts.{IsNoticed}
 use Rattle.ibx_compare.proofs.Noticed.{is_noticed}
@@ -42,5 +42,5 @@ pub returns-clause-noticed : goal.returns-clause-noticed
 returns-clause-noticed c =
     let verdict_is = run_ends c.args.clean.now c.args.flip.now c.args.cycles c.loop-at.at c.loop-at.clean
     c.loop-at.faulty c.loop-at.verdict (omega arith) c.loop-at.invariant in
-    subst (λ (v : Verdict). IsNoticed v) (sym verdict_is) (is_noticed c.args.clean.now c.args.flip.now c.args.cycles
-    c.requires.as_new c.requires.fits)
+    subst (λ (v : Verdict). IsNoticed (c.args.clean.now.delay + 1) v) (sym verdict_is)
+    (is_noticed c.args.clean.now c.args.flip.now c.args.cycles c.requires.as_new c.requires.fits)

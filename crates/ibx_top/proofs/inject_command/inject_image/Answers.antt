@@ -1,10 +1,13 @@
-use Rattle.std.proofs.Common.{◌≡◌, refl, ap, subst, ◌∙◌}
+use Rattle.std.proofs.Common.{◌≡◌, ℕ, ◌+◌, refl, ap, subst, ◌∙◌}
 use Rattle.std.specs.Prelude.{is_some}
 use Rattle.ibx_base.specs.Sinks.{TookPrefix, with_more}
+use Rattle.ibx_core.specs.declared.state.State.{State}
+use Rattle.ibx_flips.specs.System.{Whole}
 use Rattle.ibx_compare.specs.declared.flipped.Verdict.{Verdict}
+use Rattle.ibx_compare.specs.Verdicts.{IsNoticed}
 use Rattle.ibx_top.specs.Verdicts.{verdict_text, verdict_of}
 use Rattle.ibx_top.specs.Answers.{alert_code, injected_by}
-use Rattle.ibx_top.proofs.Systems.{injects, verdict_is}
+use Rattle.ibx_top.proofs.Systems.{first_delay, injects, verdict_is}
 use Rattle.ibx_top.proofs.inject_command.inject_image.Goals as goal
 
 pub returns-in-Ok-print_verdict-clause-prints : goal.returns-in-Ok-print_verdict-clause-prints
@@ -64,7 +67,10 @@ returns-clause-prints g c =
 pub returns-in-Ok-print_verdict-clause-noticed : goal.returns-in-Ok-print_verdict-clause-noticed
 returns-in-Ok-print_verdict-clause-noticed g c = record {
   verdict = c.compare-verdict.result;
-  noticed = c.compare-verdict.ensures.noticed;
+  noticed =
+      subst (λ (d : ℕ). IsNoticed (d + 1) c.compare-verdict.result)
+      (ap (λ (w : Whole State). w.delay) c.in-Ok.ensures.first ∙ first_delay c.args.image.now _ c.args.plan.now)
+      c.compare-verdict.ensures.noticed;
   status = ap alert_code c.is_some.ensures;
   text = c.in-Ok-print_verdict.ensures.whole;
 }
