@@ -11,7 +11,7 @@ use Rattle.std.specs.Int.Bits.{or_zero_l}
 use Rattle.std.proofs.Math.Nat.{mod-eq_of_lt, mod-lt, pow-suc}
 use Rattle.std.proofs.lemmas.Bool.{and_parts, cases_Bool, eqb-true}
 use Rattle.std.proofs.lemmas.Nat.{mod-pow-add, pow-add}
-use Rattle.ibx_number.specs.Number.{value_in, number_of}
+use Rattle.ibx_text.specs.Number.{value_in, number_of}
 use Rattle.ibx_isa.specs.Lengths.{is_long, IsWordOrHalf}
 use Rattle.ibx_asm.specs.declared.fields.Field.TheVariants as field
 use Rattle.ibx_asm.specs.Denote.{label_of, code_of}

@@ -11,7 +11,7 @@ use Rattle.std.proofs.Math.Nat.{mod-lt, pow-suc, pow-zero}
 use Rattle.std.proofs.lemmas.Bool.{and_parts, eqb-true}
 use Rattle.std.proofs.lemmas.Fmt.{decimal_by_steps, decimal_nonempty, length-decimal-le}
 use Rattle.std.proofs.lemmas.List.Folds.{list_all-append}
-use Rattle.ibx_number.specs.Number.{value_in, number_of}
+use Rattle.ibx_text.specs.Number.{value_in, number_of}
 use Rattle.ibx_asm.specs.declared.operand.Signed.{Signed}
 use Rattle.ibx_asm.specs.Dis.{signed_text}
 use Rattle.ibx_asm.specs.Operands.{signed_of}

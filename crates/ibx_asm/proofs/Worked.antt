@@ -1,6 +1,6 @@
 -- The definitions computed: what texts stand for, and the texts of words.
 use Rattle.std.proofs.Common.{◌≡◌, [], ◌∷◌, Ok, Err, refl, codes}
-use Rattle.ibx_number.specs.Number.{value_in, number_of}
+use Rattle.ibx_text.specs.Number.{value_in, number_of}
 use Rattle.ibx_asm.specs.declared.fault.AsmFault.TheVariants as fault
 use Rattle.ibx_asm.specs.declared.fault.AsmKind.TheVariants as kind
 use Rattle.ibx_asm.specs.Denote.{are_operands, instruction_of, label_of, placed, code_with, code_of, code_of_all}

@@ -6,7 +6,7 @@ use Rattle.std.specs.Fmt.{decimal}
 use Rattle.std.specs.List.{find, zip, slice_get}
 use Rattle.std.specs.Int.{bytes_low_first}
 use Rattle.std.specs.Option.{option_map}
-unfoldable pub use Rattle.ibx_digits.specs.Digits.{hex_digits}
+unfoldable pub use Rattle.ibx_text.specs.Digits.{hex_digits}
 use Rattle.ibx_isa.specs.Lengths.{is_long}
 use Rattle.ibx_bits.specs.Bytes.{bits_at}
 use Rattle.ibx_decoder.specs.Compressed as compressed

@@ -4,7 +4,7 @@ use Rattle.std.specs.Prelude.{List, [], ◌∷◌, drop, codes, Option, Some, is
 use Rattle.std.specs.List.{find, list_all, position, starts_with}
 use Rattle.std.specs.Option.{option_map}
 use Rattle.std.specs.Str.{bytes_eq}
-use Rattle.ibx_number.specs.Number.{number_of}
+use Rattle.ibx_text.specs.Number.{number_of}
 use Rattle.ibx_asm.specs.declared.operand.Signed.{Signed}
 use Rattle.ibx_asm.specs.declared.slot.Place.{Place}
 use Rattle.ibx_asm.specs.declared.slot.Place.TheVariants as place

@@ -5,7 +5,7 @@ ghost use Rattle.ibx_asm.specs.Dis.{hex_digits, signed_text, number_in, number_t
 use crate::fields::{Field, number_in};
 use crate::operand::{Signed, register_name};
 use arrayvec::ArrayString;
-use ibx_digits::Digits;
+use ibx_text::Digits;
 
 /// The text of an instruction, which has at most 40 bytes.
 pub(crate) type Line = ArrayString<40>;

@@ -4,7 +4,7 @@ ghost use Rattle.std.specs.List.{list_all, position};
 ghost use Rattle.std.specs.Str.{bytes_eq};
 ghost use Rattle.ibx_asm.specs.Operands.{register_of, signed_of, is_initial, is_name_byte, is_name, difference};
 
-use ibx_number::number;
+use ibx_text::number;
 
 /// A number with its sign: minus `size` where `minus` is set.
 #[derive(Clone, Copy)]

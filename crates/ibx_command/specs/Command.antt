@@ -5,7 +5,7 @@ use Rattle.std.specs.Str.{bytes_eq}
 use Rattle.ibx_command.specs.declared.options.Options.{Options}
 use Rattle.ibx_command.specs.declared.command.Command.{Command}
 use Rattle.ibx_command.specs.declared.command.Command.TheVariants.{Run, Inject, Twin, Generate, Assemble, Disassemble}
-use Rattle.ibx_number.specs.Number.{number_of}
+use Rattle.ibx_text.specs.Number.{number_of}
 use Rattle.ibx_elf.specs.declared.ram.Ram.{Ram}
 use Rattle.ibx_elf.specs.Ram.{IsRamRange}
 use Rattle.ibx_command.specs.Parts.{Piece, pieces_of, all_fit, files_of, only, both}

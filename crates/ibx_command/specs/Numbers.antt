@@ -1,7 +1,7 @@
 -- Options whose value is a number (our own rules).
 use Rattle.std.specs.Prelude.{ℕ, Bool, ◌&&◌, nat_le, List, [], ◌∷◌, codes, Option, Some, None, if◌then◌else◌}
 use Rattle.std.specs.Option.{option_and_then}
-use Rattle.ibx_number.specs.Number.{number_of}
+use Rattle.ibx_text.specs.Number.{number_of}
 
 -- an option that takes a number: its name, the number where it isn't given, and the least and the most that it takes
 pub record NumberRule : Type 0 where

@@ -8,7 +8,7 @@ use crate::numbers::{CYCLES, DELAY, RAM_BASE, RAM_SIZE};
 use crate::options::{MUL, Options, PLAN, options_in, plan_choice_in, plan_in, ram_in};
 use crate::parts::{Found, Wanted, all_fit, find, two_files};
 use ibx_elf::Ram;
-use ibx_number::number;
+use ibx_text::number;
 
 /// The words of the command `run FILE`.
 #[derive(Clone, Copy, Debug, PartialEq, Eq)]

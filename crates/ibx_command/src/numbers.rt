@@ -4,7 +4,7 @@ ghost use Rattle.ibx_command.specs.Numbers.{number_set};
 ghost use Rattle.ibx_command.specs.Found.{rule_of};
 
 use crate::parts::{Found, Wanted, find};
-use ibx_number::number;
+use ibx_text::number;
 
 /// An option that takes a number.
 #[derive(Drop)]

@@ -11,12 +11,13 @@ use Rattle.ibx_plan.specs.declared.site.Flip.{Flip}
 use Rattle.ibx_core.specs.declared.state.State.{State}
 use Rattle.ibx_core.specs.Fields.{reset_of}
 use Rattle.ibx_core.specs.Wires.{quiet_in, quiet_out}
-use Rattle.ibx_flips.specs.Core.{core_parts}
-use Rattle.ibx_flips.specs.System.{Whole}
-use Rattle.ibx_flips.specs.Flips.{Bounded, IsFirst, first_alert, first_diff}
-use Rattle.ibx_flips.proofs.First.{codewords_at_reset, first_at_reset}
-use Rattle.ibx_flips.proofs.RealCore.{core_laws}
-use Rattle.ibx_flips.proofs.Sites.{fits_of}
+use Rattle.ibx_system.specs.Core.{core_parts}
+use Rattle.ibx_system.specs.System.{Whole}
+use Rattle.ibx_flips.specs.Flips.{Bounded, first_alert, first_diff}
+use Rattle.ibx_system.specs.Runs.{IsFirst}
+use Rattle.ibx_system.proofs.First.{codewords_at_reset, first_at_reset}
+use Rattle.ibx_system.proofs.RealCore.{core_laws}
+use Rattle.ibx_system.proofs.Sites.{fits_of}
 use Rattle.ibx_flips.proofs.Whole.{noticed}
 use Rattle.ibx_soc.specs.First.{IsAsNew, first_place, words_in}
 use Rattle.ibx_compare.specs.Verdicts.{IsNoticed, verdict, with_alerts}

@@ -6,9 +6,10 @@ use Rattle.ibx_bus.proofs.Steps.{same_length}
 use Rattle.ibx_plan.specs.declared.site.Flip.{Flip}
 use Rattle.ibx_plan.specs.declared.site.Site.{Site}
 use Rattle.ibx_plan.specs.declared.site.Site.TheVariants as site
-use Rattle.ibx_flips.specs.Core.{Parts}
-use Rattle.ibx_flips.specs.System.{Place, Whole, dgrant_of, load_store_of, next, output_of, settle}
-use Rattle.ibx_flips.specs.Flips.{delay_flip, flip, made, place_flip, run}
+use Rattle.ibx_system.specs.Core.{Parts}
+use Rattle.ibx_system.specs.System.{Place, Whole, dgrant_of, load_store_of, next, output_of, settle}
+use Rattle.ibx_system.specs.Flips.{delay_flip, flip, place_flip}
+use Rattle.ibx_system.specs.Runs.{made, run}
 
 -- the count of RAM's words
 abbrev pub size_of : {S : Type 0} → Whole S → ℕ

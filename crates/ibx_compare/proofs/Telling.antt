@@ -6,10 +6,10 @@ use Rattle.ibx_isa.specs.declared.event.Event.{Event}
 use Rattle.ibx_isa.specs.declared.event.Event.TheVariants.{Retire, Trap, Irq}
 use Rattle.ibx_story.specs.Stories.{event_cycle, halts}
 use Rattle.ibx_core.specs.declared.state.State.{State}
-use Rattle.ibx_flips.specs.Core.{core_parts}
-use Rattle.ibx_flips.specs.System.{Whole, next, output_of, settle}
-use Rattle.ibx_flips.specs.Flips.{run}
-use Rattle.ibx_flips.proofs.Runs.{run_more}
+use Rattle.ibx_system.specs.Core.{core_parts}
+use Rattle.ibx_system.specs.System.{Whole, next, output_of, settle}
+use Rattle.ibx_system.specs.Runs.{run}
+use Rattle.ibx_system.proofs.Runs.{run_more}
 use Rattle.ibx_soc.specs.declared.cycle.Cycle.{Cycle}
 use Rattle.ibx_soc.specs.Cycles.{cycle_of, happens_at, soc_next}
 use Rattle.ibx_compare.specs.Drives.{Drive, drive_after, drive_by, drive_from}

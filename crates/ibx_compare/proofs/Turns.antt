@@ -7,12 +7,13 @@ use Rattle.std.proofs.lemmas.Bool.{cases_lt, le-ltb, lt-ltb}
 use Rattle.std.proofs.Math.Nat.{min-eq_left, min-eq_right, zero-min}
 use Rattle.ibx_plan.specs.declared.site.Flip.{Flip}
 use Rattle.ibx_core.specs.declared.state.State.{State}
-use Rattle.ibx_flips.specs.Core.{core_parts}
-use Rattle.ibx_flips.specs.System.{Whole, output_of}
-use Rattle.ibx_flips.specs.Flips.{alarms, before_step, differs, first_from, made, run}
+use Rattle.ibx_system.specs.Core.{core_parts}
+use Rattle.ibx_system.specs.System.{Whole, output_of}
+use Rattle.ibx_flips.specs.Flips.{alarms, differs, first_from}
+use Rattle.ibx_system.specs.Runs.{before_step, made, run}
 use Rattle.ibx_plan.specs.Sites.{site_fits}
 use Rattle.ibx_plan.specs.declared.site.Site.{Site}
-use Rattle.ibx_flips.proofs.Runs.{cycle_run, run_more}
+use Rattle.ibx_system.proofs.Runs.{cycle_run, run_more}
 use Rattle.ibx_soc.specs.First.{IsAsNew}
 use Rattle.ibx_compare.proofs.Sizes.{delay_run, size_of, size_run}
 use Rattle.ibx_soc.specs.declared.cycle.Cycle.{Cycle}

@@ -4,7 +4,7 @@ use Rattle.std.specs.Prelude.{ℕ, zero, suc, Bool, true, false, List, [], ◌�
 use Rattle.ibx_isa.specs.declared.event.Event.{Event}
 use Rattle.ibx_story.specs.Stories.{halts}
 use Rattle.ibx_core.specs.declared.state.State.{State}
-use Rattle.ibx_flips.specs.System.{Whole}
+use Rattle.ibx_system.specs.System.{Whole}
 use Rattle.ibx_soc.specs.Cycles.{cycle_of, soc_next}
 
 -- the events of a run in order, whether a halting store ended it, and the state that it leaves

@@ -9,7 +9,7 @@ use Rattle.ibx_isa.specs.Lengths.{IsWordOrHalf}
 use Rattle.ibx_isa.specs.Views.{view_of}
 use Rattle.ibx_story.specs.Stories.{event_cycle, halts}
 use Rattle.ibx_core.specs.declared.state.State.{State}
-use Rattle.ibx_flips.specs.System.{Whole}
+use Rattle.ibx_system.specs.System.{Whole}
 use Rattle.ibx_soc.specs.Cycles.{cycle_of, soc_next}
 use Rattle.ibx_compare.specs.declared.comparison.Twin.{Twin}
 use Rattle.ibx_compare.specs.declared.comparison.Twin.TheVariants.{Same, Differ}

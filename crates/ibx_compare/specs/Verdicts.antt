@@ -5,9 +5,10 @@ use mathlib.Core.Bool.{beq}
 use Rattle.ibx_isa.specs.declared.bus.Alerts.{Alerts}
 use Rattle.ibx_plan.specs.declared.site.Flip.{Flip}
 use Rattle.ibx_core.specs.declared.state.State.{State}
-use Rattle.ibx_flips.specs.Core.{core_parts}
-use Rattle.ibx_flips.specs.System.{Whole}
-use Rattle.ibx_flips.specs.Flips.{Bounded, before_step, first_alert, first_diff}
+use Rattle.ibx_system.specs.Core.{core_parts}
+use Rattle.ibx_system.specs.System.{Whole}
+use Rattle.ibx_flips.specs.Flips.{Bounded, first_alert, first_diff}
+use Rattle.ibx_system.specs.Runs.{before_step}
 use Rattle.ibx_soc.specs.declared.cycle.BusOut.{BusOut}
 use Rattle.ibx_soc.specs.Cycles.{cycle_of}
 use Rattle.ibx_compare.specs.declared.flipped.Verdict.{Verdict}

@@ -1,7 +1,7 @@
 ghost use Rattle.std.specs.Prelude.{◌≡◌, ◌<◌, ◌≤◌, ◌^◌, ◌+◌, ◌==◌, ◌&&◌, not, true, length, Some, None};
 ghost use Rattle.ibx_plan.specs.Sites.{site_fits};
-ghost use Rattle.ibx_flips.specs.Core.{core_parts};
-ghost use Rattle.ibx_flips.specs.Flips.{made, run};
+ghost use Rattle.ibx_system.specs.Core.{core_parts};
+ghost use Rattle.ibx_system.specs.Runs.{made, run};
 ghost use Rattle.ibx_soc.specs.Cycles.{cycle_of, soc_next};
 ghost use Rattle.ibx_soc.specs.First.{IsAsNew};
 ghost use Rattle.ibx_compare.specs.Verdicts.{IsNoticed, agree_wires, then_test, verdict as verdict_of};
@@ -32,7 +32,7 @@ fn same_bus(a: &BusOut, b: &BusOut) -> bool
 }
 
 // Makes the flip where its cycle has come.
-#[tactic(auto, using(ibx_flips::proofs::Runs::cycle_flipped))]
+#[tactic(auto, using(ibx_system::proofs::Runs::cycle_flipped))]
 fn make(soc: &mut Soc<'_>, flip: &Flip)
     requires { site_fits (length soc.old.place.memory.words) soc.old.delay flip.now.site ≡ true }
     ensures made { soc.new ≡ made core_parts (Some flip.now) soc.old }

@@ -1,8 +1,8 @@
 ghost use Rattle.std.specs.Prelude.{◌≡◌, ◌≤◌, ◌+◌, IfSome};
 ghost use Rattle.std.specs.Option.{option_map};
 ghost use Rattle.ibx_isa.specs.Views.{view_of};
-ghost use Rattle.ibx_flips.specs.Core.{core_parts};
-ghost use Rattle.ibx_flips.specs.Flips.{run};
+ghost use Rattle.ibx_system.specs.Core.{core_parts};
+ghost use Rattle.ibx_system.specs.Runs.{run};
 ghost use Rattle.ibx_soc.specs.First.{IsAsNew};
 ghost use Rattle.ibx_compare.specs.Twins.{HasLine, HaveLines, IsFirstDifference, index_of, told, told_cycles, twin_of};
 ghost use Rattle.ibx_compare.specs.Twins.{views_of};

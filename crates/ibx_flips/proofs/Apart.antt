@@ -4,7 +4,7 @@ use Rattle.std.proofs.Common.{length-set, get_or-set_same, get_or-set_other}
 use Rattle.std.specs.Prelude.{◌&&◌, ◌==◌, slice_index, slice_set, if◌then◌else◌}
 use Rattle.std.proofs.lemmas.Bool.{eqb-true, eqb-false}
 use Rattle.std.proofs.lemmas.List.{set-set, set_comm}
-use Rattle.ibx_flips.specs.System.{put_if}
+use Rattle.ibx_system.specs.System.{put_if}
 
 module _ (bad : ℕ → Bool) where
   -- word k of ys is a bad one in place of that of xs, or all are the same

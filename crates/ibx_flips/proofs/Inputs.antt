@@ -4,7 +4,7 @@ use Rattle.std.specs.Prelude.{◌&&◌, ◌||◌, if◌then◌else◌}
 use Rattle.std.proofs.lemmas.Bool.{cases_Bool, and_parts, and_from, or_parts, or_cases, or_left, or_right}
 use Rattle.ibx_core.specs.Wires.{InWires as In}
 use Rattle.ibx_icache.specs.WordPort.{is_bad_tag, is_bad_word}
-use Rattle.ibx_flips.specs.Core.{Parts, heard, hears_bad, takes0, takes1}
+use Rattle.ibx_system.specs.Core.{Parts, heard, hears_bad, takes0, takes1}
 use Rattle.ibx_flips.specs.Flips.{InMarks, uses_marked}
 use Rattle.ibx_flips.proofs.Apart.{WordApart}
 

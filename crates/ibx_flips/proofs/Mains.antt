@@ -6,14 +6,16 @@ use Rattle.std.specs.Prelude.{◌==◌}
 use Rattle.std.proofs.lemmas.Bool.{cases_Bool, not_from_true}
 use Rattle.ibx_core.specs.Wires.{InWires as In, OutWires as Out, agree}
 use Rattle.ibx_core.specs.Core.{reads_in}
-use Rattle.ibx_flips.specs.Core.{Parts, CoreLaws}
-use Rattle.ibx_flips.specs.System.{Whole, Place, next, settle, output_of, same_bus, look, output}
-use Rattle.ibx_flips.specs.System.{input, with_grants, shown, changed}
+use Rattle.ibx_system.specs.Core.{Parts, CoreLaws}
+use Rattle.ibx_system.specs.System.{Whole, Place, next, settle, output_of, same_bus, look, output}
+use Rattle.ibx_system.specs.System.{input, with_grants, shown, changed}
 use Rattle.ibx_plan.specs.declared.site.Site.TheVariants as site
-use Rattle.ibx_flips.specs.Flips.{delay_flip, flip, parted, run}
-use Rattle.ibx_flips.proofs.Compare.{same_compared, same_bus-refl, same_bus_agreed}
+use Rattle.ibx_system.specs.Flips.{delay_flip, flip}
+use Rattle.ibx_flips.specs.Flips.{parted}
+use Rattle.ibx_system.specs.Runs.{run}
+use Rattle.ibx_system.proofs.Compare.{same_compared, same_bus-refl, same_bus_agreed}
 use Rattle.ibx_flips.proofs.Runs.{Keeps, Goes, Soon}
-use Rattle.ibx_flips.proofs.Follows.{Awaits, Follows, given, joined, nearer, told_after}
+use Rattle.ibx_system.proofs.Follows.{Awaits, Follows, given, joined, nearer, told_after}
 
 module _ {S : Type 0} (p : Parts S) (laws : CoreLaws p) where
   -- ---- what the wires alone decide

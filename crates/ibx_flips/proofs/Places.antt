@@ -12,13 +12,13 @@ use Rattle.ibx_secded.specs.Code.{encode_of}
 use Rattle.ibx_core.specs.Wires.{OutWires as Out}
 use Rattle.ibx_icache.specs.WordPort.{is_bad_tag, is_bad_word}
 use Rattle.ibx_plan.specs.Plan.{lines_at}
-use Rattle.ibx_flips.specs.Core.{Parts}
-use Rattle.ibx_flips.specs.System.{store_if, Place, put_if, tags_after, lines_after, way_after, writes_register}
-use Rattle.ibx_flips.specs.System.{writes_way, tag_index, line_index, set_of, half_of, shown, changed, look, settle}
-use Rattle.ibx_flips.specs.System.{fetch_of, load_store_of, igrant_of, dgrant_of}
+use Rattle.ibx_system.specs.Core.{Parts}
+use Rattle.ibx_system.specs.System.{store_if, Place, put_if, tags_after, lines_after, way_after, writes_register}
+use Rattle.ibx_system.specs.System.{writes_way, tag_index, line_index, set_of, half_of, shown, changed, look, settle}
+use Rattle.ibx_system.specs.System.{fetch_of, load_store_of, igrant_of, dgrant_of}
 use Rattle.ibx_flips.specs.Flips.{Spot, Marks, in_marks, place_marks, copy_after, reads_word}
 use Rattle.ibx_bus.proofs.Steps.{same_base}
-use Rattle.ibx_flips.proofs.Bus.{merged_word, by_words, merge_keeps}
+use Rattle.ibx_system.proofs.Bus.{merged_word, by_words, merge_keeps}
 use Rattle.ibx_flips.proofs.Apart.{ListApart, WordApart, length_apart, put_apart, read_apart, store_apart}
 use Rattle.ibx_flips.proofs.Inputs.{InApart}
 

@@ -3,21 +3,26 @@ use Rattle.std.proofs.Common.{◌≡◌, ℕ, suc, ◌+◌, ◌-◌, ◌≤◌, 
 use Rattle.std.proofs.Common.{ap, subst, sym, ◌∙◌, arith}
 use Rattle.std.specs.Prelude.{◌&&◌, nat_le}
 use Rattle.std.proofs.lemmas.Bool.{cases_lt, and_parts, leb-true, le-leb, not_from_true}
-use Rattle.ibx_flips.specs.Core.{Parts, CoreLaws}
-use Rattle.ibx_flips.specs.System.{Whole}
+use Rattle.ibx_system.specs.Core.{Parts, CoreLaws}
+use Rattle.ibx_system.specs.System.{Whole}
 use Rattle.ibx_plan.specs.declared.site.Site.{Site}
 use Rattle.ibx_plan.specs.declared.site.Site.TheVariants as site
 use Rattle.ibx_plan.specs.declared.site.Flip.{Flip}
-use Rattle.ibx_flips.specs.Flips.{Fits, IsFirst, is_side, is_word, Noticed, ReplacementNoticed, ToldByUse, Unseen}
-use Rattle.ibx_flips.specs.Flips.{AgreesTo, flip, run, differs, alarms, first_use, first_from, uses, uses_from}
+use Rattle.ibx_system.specs.Flips.{Fits}
+use Rattle.ibx_flips.specs.Flips.{is_side, is_word, Noticed, ReplacementNoticed, ToldByUse, Unseen}
+use Rattle.ibx_system.specs.Runs.{IsFirst}
+use Rattle.ibx_system.specs.Flips.{flip}
+use Rattle.ibx_flips.specs.Flips.{AgreesTo, differs, alarms, first_use, first_from, uses, uses_from}
+use Rattle.ibx_system.specs.Runs.{run}
 use Rattle.ibx_flips.specs.Flips.{marks_from, spot_of, marks_of}
 use Rattle.ibx_flips.proofs.Searches.{found, none_found}
-use Rattle.ibx_flips.proofs.Runs.{noticed_by, noticed_from, noticed_where, kept_run, same_ahead, differs_behind}
+use Rattle.ibx_system.proofs.Runs.{kept_run}
+use Rattle.ibx_flips.proofs.Runs.{noticed_by, noticed_from, noticed_where, same_ahead, differs_behind}
 use Rattle.ibx_flips.proofs.Runs.{alarms_behind}
-use Rattle.ibx_flips.proofs.Follows.{Follows, follows_first, follows_next}
+use Rattle.ibx_system.proofs.Follows.{Follows, follows_first, follows_next}
 use Rattle.ibx_flips.proofs.Mains.{Mains, mains_keep, mains_start, replaced_start, Sides, sides_agree, sides_keep}
 use Rattle.ibx_flips.proofs.Mains.{shadow_start, delay_start}
-use Rattle.ibx_flips.proofs.Codewords.{Ready, ready_next}
+use Rattle.ibx_system.proofs.Codewords.{Ready, ready_next}
 use Rattle.ibx_flips.proofs.Words.{Words, goes, told, follow, reg_start, tag_start, line_start, mem_start}
 use Rattle.ibx_flips.proofs.Words.{output_start, answer_start}
 

@@ -6,21 +6,25 @@ use Rattle.std.proofs.lemmas.Bool.{eqb-true, or_left}
 use Rattle.ibx_bus.specs.Port.{PortState}
 use Rattle.ibx_core.specs.Wires.{InWires as In, OutWires as Out}
 use Rattle.ibx_icache.specs.WordPort.{is_bad_tag, is_bad_word}
-use Rattle.ibx_flips.specs.Core.{Parts, CoreLaws, heard, is_alert}
-use Rattle.ibx_flips.proofs.Bus.{flip_told, tag_flip_told}
-use Rattle.ibx_flips.specs.System.{Whole, Place, next, settle, output_of, same_bus, alarm, shown, changed}
-use Rattle.ibx_flips.specs.System.{flip_wire, look, output, input, igrant_of, dgrant_of, tag_index, line_index}
-use Rattle.ibx_flips.specs.System.{set_of, half_of}
+use Rattle.ibx_system.specs.Core.{Parts, CoreLaws, heard, is_alert}
+use Rattle.ibx_system.proofs.Bus.{flip_told, tag_flip_told}
+use Rattle.ibx_system.specs.System.{Whole, Place, next, settle, output_of, same_bus, alarm, shown, changed}
+use Rattle.ibx_system.specs.System.{flip_wire, look, output, input, igrant_of, dgrant_of, tag_index, line_index}
+use Rattle.ibx_system.specs.System.{set_of, half_of}
 use Rattle.ibx_plan.specs.declared.site.Site.{Site}
 use Rattle.ibx_plan.specs.declared.site.Site.TheVariants as site
 use Rattle.ibx_bus.specs.Port.{port_flip}
-use Rattle.ibx_flips.specs.Flips.{Spot, Marks, Codewords, flip, place_flip, spot_of, marks_of, no_marks, in_marks}
-use Rattle.ibx_flips.specs.Flips.{used, place_marks, marks_next, marks_from, uses_from, run, with_flip}
-use Rattle.ibx_flips.proofs.Compare.{same_bus-refl}
+use Rattle.ibx_system.specs.Flips.{flip, place_flip}
+use Rattle.ibx_flips.specs.Flips.{Spot, Marks, spot_of, marks_of, no_marks, in_marks}
+use Rattle.ibx_system.specs.Runs.{Codewords}
+use Rattle.ibx_system.specs.Flips.{with_flip}
+use Rattle.ibx_flips.specs.Flips.{used, place_marks, marks_next, marks_from, uses_from}
+use Rattle.ibx_system.specs.Runs.{run}
+use Rattle.ibx_system.proofs.Compare.{same_bus-refl}
 use Rattle.ibx_flips.proofs.Apart.{ListApart, WordApart}
 use Rattle.ibx_flips.proofs.Inputs.{InApart, heard_same, used_bad}
 use Rattle.ibx_flips.proofs.Places.{Near, PortApart, look_apart, settle_near, grants_same}
-use Rattle.ibx_flips.proofs.Codewords.{Ready, inside_good}
+use Rattle.ibx_system.proofs.Codewords.{Ready, inside_good}
 
 module _ {S : Type 0} (p : Parts S) (laws : CoreLaws p) where
   -- ---- an output word

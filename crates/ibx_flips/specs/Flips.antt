@@ -10,10 +10,11 @@ use Rattle.ibx_bus.specs.Memory.{MemoryState, memory_flip, is_store, memory_has,
 use Rattle.ibx_bus.specs.Port.{answers, port_flip}
 use Rattle.ibx_core.specs.Wires.{InWires as In, OutWires as Out}
 use Rattle.ibx_icache.specs.WordPort.{is_bad_tag, is_bad_word}
-use Rattle.ibx_flips.specs.Core.{Parts, takes0, takes1}
-use Rattle.ibx_flips.specs.System.{Place, Whole, tag_index, line_index, set_of, half_of, look, writes_register}
-use Rattle.ibx_flips.specs.System.{writes_way, igrant_of, dgrant_of, fetch_of, load_store_of, next, output_of}
-use Rattle.ibx_flips.specs.System.{same_bus, alarm}
+use Rattle.ibx_system.specs.Core.{Parts, takes0, takes1}
+use Rattle.ibx_system.specs.System.{Place, Whole, tag_index, line_index, set_of, half_of, look, writes_register}
+use Rattle.ibx_system.specs.System.{writes_way, igrant_of, dgrant_of, fetch_of, load_store_of, next, output_of}
+use Rattle.ibx_system.specs.System.{same_bus, alarm}
+use Rattle.ibx_system.specs.Runs.{IsFirst, before_step, run}
 
 -- whether the place is a word of the memories, the ports or the core's input
 abbrev pub is_word : Site → Bool
@@ -27,62 +28,6 @@ abbrev pub is_side : Site → Bool
 is_side (site.Shadow field bit) = true
 is_side (site.Delay slot wire bit) = true
 is_side _ = false
-
--- whether there is such a bit
-abbrev pub Fits : Site → Place → Type 0
-Fits (site.Reg n bit) e = (0 < n) × (n < length e.registers) × (bit < 39)
-Fits (site.Tag set way bit) e = (tag_index set way < length e.tags) × (bit < 28)
-Fits (site.Line set way half bit) e = (line_index set way half < length e.lines) × (bit < 39)
-Fits (site.Output wire bit) e = (wire < 6) × (bit < (if (wire == 2) || (wire == 3) then 28 else 39))
-Fits (site.Answer port bit) e = (port < 2) × (bit < 39)
-Fits (site.Mem word bit) e = (word < length e.memory.words) × (bit < 39)
-Fits _ e = Unit {0}
-
--- the words with one bit changed
-abbrev pub with_flip : List ℕ → ℕ → ℕ → List ℕ
-with_flip words n bit = slice_set words n (bit_xor (slice_index words n) (2 ^ bit))
-
--- the words after a flip in them
-unfoldable pub place_flip : Site → Place → Place
-place_flip (site.Reg n bit) e = record e { registers = with_flip e.registers n bit }
-place_flip (site.Tag set way bit) e = record e { tags = with_flip e.tags (tag_index set way) bit }
-place_flip (site.Line set way half bit) e = record e { lines = with_flip e.lines (line_index set way half) bit }
-place_flip (site.Output wire bit) e = record e { pending = Some (wire, bit) }
-place_flip (site.Answer port bit) e =
-    if port == 0 then record e { iport = port_flip e.iport bit } else record e { dport = port_flip e.dport bit }
-place_flip (site.Mem word bit) e = record e { memory = memory_flip e.memory word bit }
-place_flip _ e = e
-
--- a list with its n-th entry changed, counted from 0
-abbrev pub changed_at : {A : Type 0} → ℕ → (A → A) → List A → List A
-changed_at n change [] = []
-changed_at zero change (x ∷ xs) = change x ∷ xs
-changed_at (suc n) change (x ∷ xs) = x ∷ changed_at n change xs
-
-module _ {S : Type 0} (p : Parts S) where
-  -- of the delay's side: by whether the wire is the age, whether it is the kept finding, and the slot
-  abbrev pub delay_flip : Bool → Bool → ℕ → ℕ → ℕ → Whole S → Whole S
-  delay_flip true told slot wire bit w = record w { age = bit_xor w.age (2 ^ bit) }
-  delay_flip false true slot wire bit w = record w { told = not w.told }
-  delay_flip false false slot wire bit w = record w { delayed = changed_at slot (p.flip_pair wire bit) w.delayed }
-
-  -- the system after a flip
-  unfoldable pub flip : Site → Whole S → Whole S
-  flip (site.Main field bit) w = record w { main = p.flip_field field bit w.main }
-  flip (site.Shadow field bit) w = record w { shadow = p.flip_field field bit w.shadow }
-  flip (site.Delay slot wire bit) w = delay_flip (wire == 36) (wire == 37) slot wire bit w
-  flip x w = record w { place = place_flip x w.place }
-
--- 32 registers, 256 sets of two ways with two data words each, all words codewords, and no pending flip
-pub record Codewords (e : Place) : Type 0 where
-  pub count : (length e.registers ≡ 32) × (length e.tags ≡ 512) × (length e.lines ≡ 1024)
-  pub registers : All (λ w. is_bad_word w ≡ false) e.registers
-  pub tags : All (λ w. is_bad_tag w ≡ false) e.tags
-  pub lines : All (λ w. is_bad_word w ≡ false) e.lines
-  pub memory : All (λ w. is_bad_word w ≡ false) e.memory.words
-  pub ianswer : is_bad_word e.iport.word ≡ false
-  pub danswer : is_bad_word e.dport.word ≡ false
-  pub pending : e.pending ≡ None
 
 -- the least number from t on, among so many, that passes a test
 unfoldable pub first_from : ℕ → (ℕ → Bool) → ℕ → Option ℕ
@@ -216,33 +161,17 @@ module _ {S : Type 0} (p : Parts S) where
   abbrev pub marks_next : Spot → Marks → Whole S → Marks
   marks_next k m w = place_marks k m w.place (output_of p w)
 
-  -- ---- runs
-
-  -- the flip is made just before the step of its cycle
-  abbrev pub made : Option (Flip) → Whole S → Whole S
-  made None w = w
-  made (Some f) w = if w.place.cycle == f.cycle then flip p f.site w else w
-
-  -- the system after so many steps
-  unfoldable pub run : Whole S → Option (Flip) → ℕ → Whole S
-  run w f zero = w
-  run w f (suc n) = run (next p (made f w)) f n
-
-  -- the state of which the step after n steps is made
-  abbrev pub before_step : Whole S → Option (Flip) → ℕ → Whole S
-  before_step w f n = made f (run w f n)
-
   -- whether the bus differs between two runs without a flip, n cycles from their starts
   abbrev pub parted : Whole S → Whole S → ℕ → Bool
-  parted w v n = not (same_bus (output_of p (run w None n)) (output_of p (run v None n)))
+  parted w v n = not (same_bus (output_of p (run p w None n)) (output_of p (run p v None n)))
 
   -- whether the bus differs between the run and the run with the flip, n cycles from the start
   abbrev pub differs : Whole S → Flip → ℕ → Bool
-  differs w f n = not (same_bus (output_of p (before_step w None n)) (output_of p (before_step w (Some f) n)))
+  differs w f n = not (same_bus (output_of p (before_step p w None n)) (output_of p (before_step p w (Some f) n)))
 
   -- whether the run with the flip has an alert there
   abbrev pub alarms : Whole S → Flip → ℕ → Bool
-  alarms w f n = alarm p (before_step w (Some f) n)
+  alarms w f n = alarm p (before_step p w (Some f) n)
 
   -- the first such cycle of a run, if there is one
   abbrev pub first_diff : Whole S → Flip → ℕ → Option ℕ
@@ -259,27 +188,15 @@ module _ {S : Type 0} (p : Parts S) where
 
   -- whether the changed word is used, n cycles after the flip
   abbrev pub uses_from : Spot → Marks → Whole S → ℕ → Bool
-  uses_from k m w n = used k (marks_from k m w n) (run w None n)
+  uses_from k m w n = used k (marks_from k m w n) (run p w None n)
 
   -- whether the changed word is used in cycle n of the run
   abbrev pub uses : Whole S → Flip → ℕ → Bool
-  uses w f n = nat_le f.cycle n && uses_from (spot_of f.site) (marks_of f.site) (run w None f.cycle) (n - f.cycle)
+  uses w f n = nat_le f.cycle n && uses_from (spot_of f.site) (marks_of f.site) (run p w None f.cycle) (n - f.cycle)
 
   -- the first such cycle of a run, if there is one
   abbrev pub first_use : Whole S → Flip → ℕ → Option ℕ
   first_use w f cycles = first_from cycles (uses w f) 0
-
-  -- ---- the first state, and the laws
-
-  -- equal cores, a delay of one cycle or more in which no pair waits, nothing found, and codewords everywhere
-  pub record IsFirst (w : Whole S) : Type 0 where
-    pub cores : w.main ≡ w.shadow
-    pub some : 1 ≤ w.delay
-    pub full : length w.delayed ≡ w.delay
-    pub age : w.age ≡ 0
-    pub untold : w.told ≡ false
-    pub cycle : w.place.cycle ≡ 0
-    pub words : Codewords w.place
 
 -- none, or an alert that comes at most so many cycles later
 abbrev pub Bounded : ℕ → Option ℕ → Option ℕ → Type 0

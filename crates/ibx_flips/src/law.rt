@@ -1,14 +1,11 @@
-ghost use Rattle.std.specs.Prelude.{◌≡◌, ◌<◌, ℕ, true, length};
+ghost use Rattle.std.specs.Prelude.{◌≡◌, ℕ, true, length};
 ghost use Rattle.ibx_core.specs.declared.state.State.{State};
-ghost use Rattle.ibx_core.specs.Fields.{fields};
-ghost use Rattle.ibx_core.specs.Flipped.{field_flip, number_flip, wire_flip, wire_numbers};
-ghost use Rattle.ibx_core.specs.Wires.{InWires, OutWires};
-ghost use Rattle.ibx_plan.specs.Names.{fields as field_table, width_in, wires as wire_table};
 ghost use Rattle.ibx_plan.specs.Sites.{site_fits};
 ghost use Rattle.ibx_plan.specs.declared.site.Flip.{Flip};
-ghost use Rattle.ibx_flips.specs.Core.{CoreLaws, core_parts};
-ghost use Rattle.ibx_flips.specs.System.{Whole};
-ghost use Rattle.ibx_flips.specs.Flips.{IsFirst, Noticed, ReplacementNoticed, ToldByUse, Unseen};
+ghost use Rattle.ibx_system.specs.Core.{core_parts};
+ghost use Rattle.ibx_system.specs.Runs.{IsFirst};
+ghost use Rattle.ibx_system.specs.System.{Whole};
+ghost use Rattle.ibx_flips.specs.Flips.{Noticed, ReplacementNoticed, ToldByUse, Unseen};
 
 /// After any one flip the bus stays as without it, or an alert comes at most the delay plus one cycles after the first
 /// difference: for every first state with a delay of one cycle or more, every flip that fits its memory and its delay,
@@ -36,19 +33,4 @@ pub fn told_by_use()
 /// ever.
 pub fn unseen()
     ensures { (w : Whole State) (f : Flip) → IsFirst core_parts w → Unseen core_parts w f }
-{}
-
-/// What one cycle of the core keeps to, for every value of its fields and of the wires.
-pub fn cycle_laws()
-    ensures { CoreLaws core_parts }
-{}
-
-/// A flip changes one bit of one field, or of one of the 36 wires of a delayed pair, and leaves all other fields, all
-/// other wires, and the event.
-pub fn one_bit()
-    ensures field { (core : State) (field bit : ℕ) → field < 87 → bit < width_in field_table field
-        → fields (field_flip field bit core) ≡ number_flip field bit (fields core) }
-    ensures wire { (pair : InWires × OutWires) (wire bit : ℕ) → wire < 36 → bit < width_in wire_table wire
-        → wire_numbers (wire_flip wire bit pair) ≡ number_flip wire bit (wire_numbers pair) }
-    ensures event { (pair : InWires × OutWires) (wire bit : ℕ) → (wire_flip wire bit pair).1.event ≡ pair.1.event }
 {}

@@ -20,7 +20,7 @@ use Rattle.ibx_plan.specs.declared.site.Site.{Site}
 use Rattle.ibx_plan.specs.declared.site.Site.TheVariants as site
 use Rattle.ibx_plan.specs.Names.{fields, wires, outputs, number_named}
 use Rattle.ibx_plan.specs.Sites.{site_fits}
-use Rattle.ibx_number.specs.Number.{number_of}
+use Rattle.ibx_text.specs.Number.{number_of}
 use Rattle.ibx_plan.specs.Text.{word}
 
 -- a line that says nothing: it has no word, or its first word begins with '#'

@@ -1,4 +1,4 @@
--- A line as words: our own rules. A text's lines are std's `lines`, and a word's number is `number_of` of ibx_number.
+-- A line as words: our own rules. A text's lines are std's `lines`, and a word's number is `number_of` of ibx_text.
 use Rattle.std.specs.Prelude.{ℕ, Bool, ◌==◌, ◌||◌, nat_lt, List, [], length, take, filter, unwrap_or, slice_get}
 use Rattle.std.specs.List.{slice_split}
 

@@ -1,10 +1,10 @@
 ghost use Rattle.std.specs.Prelude.{◌≡◌, ◌<◌, SomeIff, unwrap_or, is_some};
-ghost use Rattle.ibx_number.specs.Number.{number_of};
+ghost use Rattle.ibx_text.specs.Number.{number_of};
 ghost use Rattle.ibx_plan.specs.Text.{word};
 ghost use Rattle.ibx_plan.specs.Line.{number_at};
 
 use crate::text::Words;
-use ibx_number::number;
+use ibx_text::number;
 
 /// Whether the word at an index is a number.
 pub(crate) fn is_number(words: &Words, index: usize) -> bool

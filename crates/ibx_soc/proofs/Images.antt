@@ -16,7 +16,7 @@ use Rattle.ibx_core.specs.Wires.{InWires as In, OutWires as Out, quiet_in, quiet
 use Rattle.ibx_lockstep.specs.Delays.{cycles_of}
 use Rattle.ibx_lockstep.specs.Paired.{Paired}
 use Rattle.ibx_lockstep.proofs.Pairs.{four_cycles, some_cycles}
-use Rattle.ibx_flips.specs.System.{Place}
+use Rattle.ibx_system.specs.System.{Place}
 use Rattle.ibx_soc.specs.declared.config.Config.{Config}
 use Rattle.ibx_soc.specs.First.{IsAsNew, first, first_place, first_with, image_words, settings_of, words_from}
 use Rattle.ibx_soc.specs.Seen.{whole_in}

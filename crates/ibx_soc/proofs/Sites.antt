@@ -3,7 +3,7 @@ use Rattle.std.proofs.Common.{◌≡◌, ℕ, ◌<◌, true, [], ◌∷◌}
 use Rattle.ibx_plan.specs.Names.{fields, outputs, width_in, wires}
 use Rattle.ibx_plan.specs.Sites.{ranged, ranges, site_fits, slots}
 use Rattle.ibx_plan.specs.declared.site.Site.TheVariants as site
-use Rattle.ibx_flips.proofs.Sites.{in_ranges, output_fits}
+use Rattle.ibx_system.proofs.Sites.{in_ranges, output_fits}
 use Rattle.ibx_soc.specs.Seen.{PendingFits}
 use Rattle.std.specs.Prelude.{Some}
 

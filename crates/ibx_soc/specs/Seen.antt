@@ -5,7 +5,7 @@ use Rattle.ibx_lockstep.specs.Paired.{Paired}
 use Rattle.ibx_lockstep.specs.Seen.{seen}
 use Rattle.ibx_core.specs.declared.state.State.{State}
 use Rattle.ibx_core.specs.Wires.{InWires as In, OutWires as Out}
-use Rattle.ibx_flips.specs.System.{Place, Whole}
+use Rattle.ibx_system.specs.System.{Place, Whole}
 use Rattle.ibx_soc.specs.declared.memories.Memories.{Memories}
 
 -- the words round the cores

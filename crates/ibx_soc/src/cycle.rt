@@ -1,7 +1,7 @@
 ghost use Rattle.std.specs.Prelude.{◌≡◌, ◌%◌, IfSome};
 ghost use Rattle.ibx_isa.specs.Events.{IsPrintable};
 ghost use Rattle.ibx_isa.specs.Wires.{IsRequest};
-ghost use Rattle.ibx_flips.specs.System.{fetch_of, load_store_of};
+ghost use Rattle.ibx_system.specs.System.{fetch_of, load_store_of};
 ghost use Rattle.ibx_soc.specs.Cycles.{alerts_with, at_cycle, bus_of, cycle_by, happens_at};
 
 use ibx_core::Out;

@@ -1,10 +1,10 @@
 ghost use Rattle.std.specs.Prelude.{◌≡◌, ◌<◌, ◌^◌, ◌+◌, ◌*◌, ◌%◌, ◌≤◌, ◌/◌, ℕ, All, length, true, IfOk};
 ghost use Rattle.ibx_plan.specs.Sites.{site_fits};
-ghost use Rattle.ibx_flips.specs.System.{changed, dgrant_of, igrant_of, settle, shown};
-ghost use Rattle.ibx_flips.specs.Core.{core_parts};
+ghost use Rattle.ibx_system.specs.System.{changed, dgrant_of, igrant_of, settle, shown};
+ghost use Rattle.ibx_system.specs.Core.{core_parts};
 ghost use Rattle.ibx_bus.specs.Memory.{coded_memory};
 ghost use Rattle.ibx_elf.specs.Image.{HoldsWords};
-ghost use Rattle.ibx_flips.specs.Flips.{place_flip};
+ghost use Rattle.ibx_system.specs.Flips.{place_flip};
 ghost use Rattle.ibx_soc.specs.Seen.{Sizes, place_of};
 ghost use Rattle.ibx_soc.specs.First.{first_place, image_words, mul_number};
 
@@ -54,7 +54,7 @@ fn mul_wire(mul: MulKind) -> u8
 
 impl<'p> Memories<'p> {
     // What the words show in this cycle, before the grants and without a pending flip.
-    #[tactic(auto, unfolding(ibx_flips::specs::System::shown), using(ibx_flips::proofs::Bus::answer_is))]
+    #[tactic(auto, unfolding(ibx_system::specs::System::shown), using(ibx_system::proofs::Bus::answer_is))]
     fn show(&self, r: &Reads) -> In
         requires sizes { Sizes self.now }
         requires first { r.now.ra < 32 }
@@ -96,7 +96,7 @@ impl<'p> Memories<'p> {
     }
 
     /// Ends the cycle by main's output, and says which port grants: both ports with the memory, and the written words.
-    #[tactic(auto, unfolding(ibx_flips::specs::System::settle), using(ibx_flips::proofs::Bus::fetch_keeps))]
+    #[tactic(auto, unfolding(ibx_system::specs::System::settle), using(ibx_system::proofs::Bus::fetch_keeps))]
     pub(crate) fn settle(&mut self, o: &Out) -> (bool, bool)
         requires sizes { Sizes self.old }
         requires cycle { self.old.cycle < 2 ^ 62 }
@@ -127,7 +127,7 @@ impl<'p> Memories<'p> {
     }
 
     /// Changes a bit of a word, where the site names one.
-    #[tactic(auto, unfolding(ibx_flips::specs::Flips::place_flip, ibx_plan::specs::Sites::site_fits, ibx_plan::specs::Sites::ranges))]
+    #[tactic(auto, unfolding(ibx_system::specs::Flips::place_flip, ibx_plan::specs::Sites::site_fits, ibx_plan::specs::Sites::ranges))]
     pub(crate) fn flip(&mut self, site: &Site)
         requires sizes { Sizes self.old }
         requires fits { (delay : ℕ) × (site_fits (length self.old.memory.words) delay site.now ≡ true) }

@@ -1,5 +1,5 @@
 ghost use Rattle.std.specs.Prelude.{◌≡◌, ◌<◌, ◌^◌, true, bit_xor, if◌then◌else◌};
-ghost use Rattle.ibx_flips.specs.System.{changed};
+ghost use Rattle.ibx_system.specs.System.{changed};
 ghost use Rattle.ibx_soc.specs.Seen.{PendingFits};
 
 use ibx_core::In;
@@ -32,7 +32,7 @@ fn flip_tag(word: u32, bit: u8, now: bool) -> u32
 }
 
 /// The input with the pending flip of an output word, by the word's number and the bit.
-#[tactic(auto, unfolding(ibx_flips::specs::System::changed))]
+#[tactic(auto, unfolding(ibx_system::specs::System::changed))]
 pub(crate) fn with_pending(i: &In, pending: Option<(u8, u8)>) -> In
     requires { PendingFits pending }
     ensures { result ≡ changed pending i.now }

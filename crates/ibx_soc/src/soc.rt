@@ -4,9 +4,9 @@ ghost use Rattle.ibx_plan.specs.Sites.{site_fits, slots};
 ghost use Rattle.ibx_plan.specs.Names.{width_in, wires};
 ghost use Rattle.ibx_core.specs.declared.state.State.{State};
 ghost use Rattle.ibx_lockstep.specs.Seen.{seen};
-ghost use Rattle.ibx_flips.specs.Core.{core_parts};
-ghost use Rattle.ibx_flips.specs.System.{Place};
-ghost use Rattle.ibx_flips.specs.Flips.{delay_flip, flip};
+ghost use Rattle.ibx_system.specs.Core.{core_parts};
+ghost use Rattle.ibx_system.specs.System.{Place};
+ghost use Rattle.ibx_system.specs.Flips.{delay_flip, flip};
 ghost use Rattle.ibx_soc.specs.Cycles.{cycle_of, soc_next};
 ghost use Rattle.ibx_soc.specs.First.{IsAsNew, first};
 ghost use Rattle.ibx_soc.specs.Seen.{whole_with};
@@ -36,7 +36,7 @@ pub struct Soc<'p> {
 
 impl<'p> Model for Soc<'p> {
     ghost use Rattle.ibx_core.specs.declared.state.State.{State};
-    ghost use Rattle.ibx_flips.specs.System.{Whole};
+    ghost use Rattle.ibx_system.specs.System.{Whole};
 
     ghost Value = { Whole State };
 
@@ -109,7 +109,7 @@ impl<'p> Soc<'p> {
     }
 
     /// Makes one cycle, whose number is below 2^62. Each core makes its cycle once, and in place.
-    #[tactic(auto, unfolding(crate::specs::Cycles::cycle_of, ibx_flips::specs::Core::core_parts, ibx_flips::specs::System::next, ibx_lockstep::specs::Paired::finds, ibx_lockstep::specs::Paired::stepped))]
+    #[tactic(auto, unfolding(crate::specs::Cycles::cycle_of, ibx_system::specs::Core::core_parts, ibx_system::specs::System::next, ibx_lockstep::specs::Paired::finds, ibx_lockstep::specs::Paired::stepped))]
     pub fn step(&mut self) -> Cycle
         requires { self.old.place.cycle < 2 ^ 62 }
         ensures shown { result ≡ cycle_of self.old }
@@ -130,7 +130,7 @@ impl<'p> Soc<'p> {
 
     /// Changes one bit, and all else stays. False exactly where there is no such bit, and then nothing changed. A
     /// change of an output word is made in the next cycle; a later one before that cycle takes its place.
-    #[tactic(auto, unfolding(ibx_flips::specs::Flips::flip, ibx_flips::specs::Core::core_parts, ibx_plan::specs::Sites::site_fits, ibx_plan::specs::Sites::ranges), using(crate::proofs::Bits::field_inside))]
+    #[tactic(auto, unfolding(ibx_system::specs::Flips::flip, ibx_system::specs::Core::core_parts, ibx_plan::specs::Sites::site_fits, ibx_plan::specs::Sites::ranges), using(crate::proofs::Bits::field_inside))]
     pub fn flip(&mut self, site: &Site) -> bool
         ensures fits { result ≡ site_fits (length self.old.place.memory.words) self.old.delay site.now }
         ensures made { result ≡ true → self.new ≡ flip core_parts site.now self.old }

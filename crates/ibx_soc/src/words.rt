@@ -1,6 +1,6 @@
 ghost use Rattle.std.specs.Prelude.{◌≡◌, ◌<◌, ◌^◌, length};
-ghost use Rattle.ibx_flips.specs.System.{registers_after, tags_after, way_after, writes_way, put_if, tag_index};
-ghost use Rattle.ibx_flips.specs.System.{line_index};
+ghost use Rattle.ibx_system.specs.System.{registers_after, tags_after, way_after, writes_way, put_if, tag_index};
+ghost use Rattle.ibx_system.specs.System.{line_index};
 
 use ibx_core::Out;
 use ibx_ram::{CodedRam, RegFile};
@@ -47,7 +47,7 @@ fn put_line(lines: &mut CodedRam<32, 7>, written: bool, at: u32, word: u64)
 }
 
 /// The tag writes of a cycle.
-#[tactic(auto, using(ibx_flips::proofs::Codewords::length_put))]
+#[tactic(auto, using(ibx_system::proofs::Codewords::length_put))]
 pub(crate) fn write_tags(tags: &mut CodedRam<22, 6>, o: &Out)
     requires { length tags.old ≡ 512 }
     ensures value { tags.new ≡ tags_after tags.old o.now }
@@ -59,7 +59,7 @@ pub(crate) fn write_tags(tags: &mut CodedRam<22, 6>, o: &Out)
 }
 
 /// The data words of one way that a cycle writes.
-#[tactic(auto, using(ibx_flips::proofs::Codewords::length_put))]
+#[tactic(auto, using(ibx_system::proofs::Codewords::length_put))]
 pub(crate) fn write_way(lines: &mut CodedRam<32, 7>, o: &Out, way: u8)
     requires way { way < 2 }
     requires size { length lines.old ≡ 1024 }

@@ -8,11 +8,11 @@ use Rattle.std.proofs.lemmas.List.Sums.{sum_by-append}
 use Rattle.ibx_isa.specs.declared.event.Event.{Event}
 use Rattle.ibx_story.specs.Stories.{halts}
 use Rattle.ibx_core.specs.declared.state.State.{State}
-use Rattle.ibx_flips.specs.System.{Whole}
+use Rattle.ibx_system.specs.System.{Whole}
 use Rattle.ibx_soc.specs.Cycles.{cycle_of, soc_next}
 use Rattle.ibx_compare.specs.Drives.{Drive, drive_after, drive_from}
 use Rattle.ibx_time.specs.Settings.{Setup}
-use Rattle.ibx_matching.specs.Laws.{IsHistory}
+use Rattle.ibx_time_system.specs.Laws.{IsHistory}
 use Rattle.ibx_trace.specs.Lines.{end_line_of}
 use Rattle.ibx_top.specs.Generated.{sum_lines, sum_text, written, written_sum}
 use Rattle.ibx_top.specs.TimedStories.{timed_story}

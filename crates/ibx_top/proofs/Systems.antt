@@ -7,7 +7,7 @@ use Rattle.ibx_plan.specs.declared.site.Flip.{Flip}
 use Rattle.ibx_plan.specs.Plan.{PlanValue}
 use Rattle.ibx_core.specs.declared.state.State.{State}
 use Rattle.ibx_lockstep.specs.Delays.{cycles_of}
-use Rattle.ibx_flips.specs.System.{Whole}
+use Rattle.ibx_system.specs.System.{Whole}
 use Rattle.ibx_command.specs.declared.options.Options.{Options}
 use Rattle.ibx_compare.specs.declared.flipped.Verdict.{Verdict}
 use Rattle.ibx_soc.specs.declared.config.Config.{Config}

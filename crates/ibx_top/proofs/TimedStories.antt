@@ -11,17 +11,17 @@ use Rattle.ibx_trace.specs.Lines.{line_of, end_line_of}
 use Rattle.ibx_story.specs.Stories.{cycles_passed, event_cycle, halts}
 use Rattle.ibx_time.specs.History.{halts as halts_in_time, history, up_to_halt}
 use Rattle.ibx_time.specs.Settings.{Setup}
-use Rattle.ibx_machine.specs.System.{with_event}
-use Rattle.ibx_matching.specs.Laws.{IsHistory, events_of}
-use Rattle.ibx_matching.proofs.History.{two_core_laws}
-use Rattle.ibx_matching.proofs.Reset.{starts}
-use Rattle.ibx_machine.specs.Whole.{IsPlaced}
+use Rattle.ibx_time_machine.specs.System.{with_event}
+use Rattle.ibx_time_system.specs.Laws.{IsHistory, events_of}
+use Rattle.ibx_time_system.proofs.History.{two_core_laws}
+use Rattle.ibx_time_system.proofs.Reset.{starts}
+use Rattle.ibx_time_machine.specs.Whole.{IsPlaced}
 use Rattle.ibx_elf.specs.Image.{Placed}
 use Rattle.ibx_plan.specs.Plan.{PlanValue}
 use Rattle.ibx_command.specs.declared.options.Options.{Options}
 use Rattle.ibx_core.specs.declared.state.State.{State}
-use Rattle.ibx_flips.specs.Core.{core_parts}
-use Rattle.ibx_flips.specs.System.{Whole, next, output_of, settle}
+use Rattle.ibx_system.specs.Core.{core_parts}
+use Rattle.ibx_system.specs.System.{Whole, next, output_of, settle}
 use Rattle.ibx_soc.specs.Cycles.{cycle_of, happens_at, soc_next}
 use Rattle.ibx_compare.specs.Drives.{Drive, drive_after, drive_by, drive_from}
 use Rattle.ibx_top.specs.Drives.{drive_text}

@@ -3,11 +3,11 @@ use Rattle.std.proofs.Common.{◌≡◌, ℕ, ◌+◌, ◌%◌, ◌<◌, ◌^◌
 use Rattle.ibx_elf.specs.Image.{Placed}
 use Rattle.ibx_plan.specs.Plan.{PlanValue}
 use Rattle.ibx_command.specs.declared.options.Options.{Options}
-use Rattle.ibx_machine.specs.Whole.{IsPlaced}
+use Rattle.ibx_time_machine.specs.Whole.{IsPlaced}
 use Rattle.ibx_core.specs.declared.state.State.{State}
-use Rattle.ibx_flips.specs.Core.{core_parts}
-use Rattle.ibx_flips.specs.Flips.{run}
-use Rattle.ibx_flips.specs.System.{Whole}
+use Rattle.ibx_system.specs.Core.{core_parts}
+use Rattle.ibx_system.specs.Runs.{run}
+use Rattle.ibx_system.specs.System.{Whole}
 use Rattle.std.specs.Prelude.{None}
 use Rattle.ibx_compare.specs.declared.comparison.Twin.{Twin}
 use Rattle.ibx_compare.specs.Twins.{index_of, told_cycles, twin_of}

@@ -5,7 +5,7 @@ use Rattle.std.proofs.lemmas.List.{length-map, take_all}
 use Rattle.ibx_isa.specs.declared.event.Event.{Event}
 use Rattle.ibx_isa.specs.Views.{view_of}
 use Rattle.ibx_core.specs.declared.state.State.{State}
-use Rattle.ibx_flips.specs.System.{Whole}
+use Rattle.ibx_system.specs.System.{Whole}
 use Rattle.ibx_time.specs.Cycles.{cycle_of}
 use Rattle.ibx_time.specs.History.{story, up_to_halt}
 use Rattle.ibx_time.specs.Settings.{Setup}
@@ -15,7 +15,7 @@ use Rattle.ibx_compare.specs.declared.comparison.Twin.TheVariants.{Same, Differ}
 use Rattle.ibx_compare.specs.Drives.{drive_from}
 use Rattle.ibx_compare.specs.Twins.{IsFirstDifference, first_difference, twin_of}
 use Rattle.ibx_compare.proofs.Comparing.{is_first}
-use Rattle.ibx_matching.specs.Laws.{IsHistory}
+use Rattle.ibx_time_system.specs.Laws.{IsHistory}
 use Rattle.ibx_top.specs.TimedStories.{timed_story}
 use Rattle.ibx_top.specs.Twins.{AgreeAsFar, TwinsAgreeInTime, compared}
 use Rattle.ibx_top.proofs.TimedStories.{drive_events}

@@ -34,7 +34,7 @@ use Rattle.ibx_top.specs.Twins.{AgreeAsFar, compared, cycles_in, differs, twin_c
 use Rattle.ibx_top.specs.ErrLines.{too_long_line, fault_line, plan_fault_line}
 use Rattle.ibx_asm.specs.declared.fault.AsmFault.{AsmFault}
 use Rattle.ibx_asm.specs.Denote.{denoted}
-use Rattle.ibx_listing.specs.Listing.{listing_of}
+use Rattle.ibx_dis.specs.Listing.{listing_of}
 use Rattle.ibx_wrap.specs.Wrapped.{wrapped}
 use Rattle.ibx_top.specs.ErrLines.{text_too_long_line, asm_fault_line}
 

@@ -4,7 +4,7 @@ use Rattle.std.specs.Fmt.{decimal}
 use Rattle.std.specs.List.{sum_by}
 use Rattle.ibx_isa.specs.declared.event.Event.{Event}
 use Rattle.ibx_isa.specs.declared.event.Event.TheVariants.{Retire}
-use Rattle.ibx_digits.specs.Digits.{hex_digits}
+use Rattle.ibx_text.specs.Digits.{hex_digits}
 use Rattle.ibx_top.specs.TimedStories.{TimedStory}
 use Rattle.ibx_top.specs.Texts.{last_line}
 

@@ -7,9 +7,9 @@ use Rattle.ibx_isa.specs.declared.event.View.{View}
 use Rattle.ibx_isa.specs.Views.{view_of}
 use Rattle.ibx_trace.specs.ViewLines.{view_line_of}
 use Rattle.ibx_core.specs.declared.state.State.{State}
-use Rattle.ibx_flips.specs.Core.{core_parts}
-use Rattle.ibx_flips.specs.Flips.{run}
-use Rattle.ibx_flips.specs.System.{Whole}
+use Rattle.ibx_system.specs.Core.{core_parts}
+use Rattle.ibx_system.specs.Runs.{run}
+use Rattle.ibx_system.specs.System.{Whole}
 use Rattle.ibx_time.specs.Cycles.{cycle_of}
 use Rattle.ibx_time.specs.Settings.{Setup, settings_of}
 use Rattle.ibx_compare.specs.declared.comparison.Twin.{Twin}

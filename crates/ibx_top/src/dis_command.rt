@@ -8,7 +8,7 @@ use crate::outcome::Outcome;
 use crate::task::FILE_LIMIT;
 use ibx_base::{Failed, Files, ReadEnd, Sink, read_all};
 use ibx_elf::{Image, Ram, load};
-use ibx_listing::print_listing;
+use ibx_dis::print_listing;
 use std::alloc::Global;
 
 // Writes the code of an image as text.

@@ -8,7 +8,7 @@ ghost use Rattle.ibx_top.specs.ErrLines.{asm_kind_text as asm_kind_text_lem, asm
 
 use arrayvec::ArrayString;
 use ibx_asm::{AsmFault, AsmKind};
-use ibx_digits::Digits;
+use ibx_text::Digits;
 use ibx_elf::ElfFault;
 use ibx_plan::{LineKind, PlanFault};
 

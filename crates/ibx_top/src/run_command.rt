@@ -1,6 +1,6 @@
 //! An image run by a plan.
 ghost use Rattle.std.specs.Prelude.{◌≡◌};
-ghost use Rattle.ibx_machine.specs.Whole.{IsPlaced};
+ghost use Rattle.ibx_time_machine.specs.Whole.{IsPlaced};
 ghost use Rattle.ibx_command.specs.Options.{IsInRange};
 ghost use Rattle.ibx_top.specs.Answers.{ran_by, setup_of};
 ghost use Rattle.ibx_top.specs.Outcomes.{IsPastReading, Prints};

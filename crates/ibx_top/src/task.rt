@@ -2,8 +2,8 @@
 ghost use Rattle.std.specs.Prelude.{◌≡◌, ◌≤◌, [], ◌∷◌, length, IfSome};
 ghost use Rattle.ibx_plan.specs.Plan.{FlipFits};
 ghost use Rattle.ibx_lockstep.specs.Delays.{cycles_of};
-ghost use Rattle.ibx_machine.specs.Whole.{IsPlaced};
-ghost use Rattle.ibx_matching.specs.Projection.{AreWords};
+ghost use Rattle.ibx_time_machine.specs.Whole.{IsPlaced};
+ghost use Rattle.ibx_time_system.specs.Projection.{AreWords};
 ghost use Rattle.ibx_command.specs.Options.{IsInRange};
 ghost use Rattle.ibx_top.specs.Answers.{file_limit, plan_limit, file_answer, bounds_of, done, setup_of, plain_answer};
 ghost use Rattle.ibx_top.specs.Answers.{IsAnswerTo, IsPlannedBy, IsPlanned};

@@ -3,8 +3,8 @@ ghost use Rattle.std.specs.Prelude.{◌≡◌, ◌≤◌, ◌+◌, ◌%◌, ◌^
 ghost use Rattle.std.specs.Option.{option_map};
 ghost use Rattle.ibx_soc.specs.First.{IsAsNew};
 ghost use Rattle.ibx_compare.specs.Twins.{twin_of};
-ghost use Rattle.ibx_machine.specs.Whole.{IsPlaced};
-ghost use Rattle.ibx_matching.specs.Projection.{AreWords};
+ghost use Rattle.ibx_time_machine.specs.Whole.{IsPlaced};
+ghost use Rattle.ibx_time_system.specs.Projection.{AreWords};
 ghost use Rattle.ibx_command.specs.Options.{IsInRange};
 ghost use Rattle.ibx_top.specs.Answers.{file_limit, plan_limit, bounds_of as bounds_of_lem, setup_of, twin_answer};
 ghost use Rattle.ibx_top.specs.Answers.{twinned_by};

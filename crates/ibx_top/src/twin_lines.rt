@@ -9,7 +9,7 @@ ghost use Rattle.ibx_top.specs.Twins.{side_line as side_line_lem, twin_text};
 use arrayvec::ArrayString;
 use ibx_base::{Failed, Sink, write_all};
 use ibx_compare::Twin;
-use ibx_digits::Digits;
+use ibx_text::Digits;
 use ibx_isa::View;
 use ibx_trace::view_line;
 

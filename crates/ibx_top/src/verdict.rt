@@ -10,7 +10,7 @@ use arrayvec::ArrayString;
 use bitflags::Flags;
 use ibx_base::{Failed, Sink, write_all};
 use ibx_compare::Verdict;
-use ibx_digits::Digits;
+use ibx_text::Digits;
 use ibx_isa::Alerts;
 
 // A line, which has at most 46 bytes.

@@ -4,7 +4,7 @@ use Rattle.std.specs.Fmt.{decimal}
 use Rattle.ibx_isa.specs.declared.event.Access.{Access}
 use Rattle.ibx_isa.specs.declared.event.Event.{Event}
 use Rattle.ibx_isa.specs.declared.event.Event.TheVariants.{Retire, Trap, Irq}
-use Rattle.ibx_digits.specs.Digits.{hex_digits, two_digits}
+use Rattle.ibx_text.specs.Digits.{hex_digits, two_digits}
 use Rattle.ibx_trace.specs.Digits.{word_digits}
 
 -- the kind of an event, its cycle and the address of its instruction

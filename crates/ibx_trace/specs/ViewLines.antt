@@ -2,7 +2,7 @@
 use Rattle.std.specs.Prelude.{ℕ, ◌==◌, ◌||◌, Bool, if◌then◌else◌, List, [], ◌++◌, Option, Some, None, codes}
 use Rattle.std.specs.Fmt.{decimal}
 use Rattle.ibx_isa.specs.declared.event.View.{View}
-use Rattle.ibx_digits.specs.Digits.{hex_digits}
+use Rattle.ibx_text.specs.Digits.{hex_digits}
 use Rattle.ibx_trace.specs.Digits.{word_digits}
 
 -- the kind of a view and the address of its instruction

@@ -2,11 +2,11 @@
 ghost use Rattle.std.specs.Prelude.{◌≡◌, ◌+◌, ◌<◌, ◌≤◌, ◌++◌};
 ghost use Rattle.std.specs.Fmt.{decimal};
 ghost use Rattle.arrayvec.specs.ArrayString.{array_string_len};
-ghost use Rattle.ibx_digits.specs.Digits.{hex_digits, two_digits};
+ghost use Rattle.ibx_text.specs.Digits.{hex_digits, two_digits};
 ghost use Rattle.ibx_trace.specs.Digits.{word_digits};
 
 use arrayvec::ArrayString;
-use ibx_digits::Digits;
+use ibx_text::Digits;
 
 /// The text of a line. The longest has fewer than 96 bytes.
 pub(crate) type Line = ArrayString<96>;

@@ -1,5 +1,5 @@
-use Rattle.ibx_flips.specs.Core.{core_parts}
-use Rattle.ibx_flips.proofs.RealCore.{core_laws}
+use Rattle.ibx_system.specs.Core.{core_parts}
+use Rattle.ibx_system.proofs.RealCore.{core_laws}
 use Rattle.ibx_flips.proofs.Whole.{replacement_noticed}
 use Rattle.ibx_flips.proofs.law.replacement_noticed.Goals as goal
 

@@ -4,8 +4,8 @@ use Rattle.ibx_elf.specs.Image.{Placed, image_of}
 use Rattle.ibx_elf.specs.Ram.{IsRamRange}
 use Rattle.ibx_gen.specs.Image.{default_ram}
 use Rattle.ibx_gen.specs.Words.{generated}
-use Rattle.ibx_machine.specs.Whole.{IsPlaced}
-use Rattle.ibx_matching.proofs.Files.{placed}
+use Rattle.ibx_time_machine.specs.Whole.{IsPlaced}
+use Rattle.ibx_time_system.proofs.Files.{placed}
 use Rattle.ibx_plan.specs.Plan.{empty_plan}
 use Rattle.ibx_top.specs.Answers.{Answer, generated_by, setup_of, summed_by}
 use Rattle.ibx_top.proofs.Outcomes.{prints_weaker}

@@ -1,9 +1,9 @@
 use Rattle.std.proofs.Common.{◌≡◌, ◌<◌, ◌^◌, ℕ, List, refl, sym, ap, subst, ◌∙◌, arith}
 use Rattle.ibx_plan.specs.Plan.{empty_plan}
 use Rattle.ibx_core.specs.declared.state.State.{State}
-use Rattle.ibx_flips.specs.System.{Whole}
+use Rattle.ibx_system.specs.System.{Whole}
 use Rattle.ibx_base.specs.Sinks.{with_more, TookPrefix}
-use Rattle.ibx_matching.specs.Laws.{IsHistory}
+use Rattle.ibx_time_system.specs.Laws.{IsHistory}
 use Rattle.ibx_compare.specs.Drives.{drive_from}
 use Rattle.ibx_top.specs.Seals.{seal_of}
 use Rattle.ibx_top.specs.Answers.{halt_code, setup_of, summed_by}

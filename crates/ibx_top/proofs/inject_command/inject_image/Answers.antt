@@ -2,7 +2,7 @@ use Rattle.std.proofs.Common.{◌≡◌, ℕ, ◌+◌, refl, ap, subst, ◌∙�
 use Rattle.std.specs.Prelude.{is_some}
 use Rattle.ibx_base.specs.Sinks.{TookPrefix, with_more}
 use Rattle.ibx_core.specs.declared.state.State.{State}
-use Rattle.ibx_flips.specs.System.{Whole}
+use Rattle.ibx_system.specs.System.{Whole}
 use Rattle.ibx_compare.specs.declared.flipped.Verdict.{Verdict}
 use Rattle.ibx_compare.specs.Verdicts.{IsNoticed}
 use Rattle.ibx_top.specs.Verdicts.{verdict_text, verdict_of}

@@ -1,6 +1,6 @@
 use Rattle.std.proofs.Common.{subst, sym}
 use Rattle.ibx_plan.specs.Plan.{PlanValue}
-use Rattle.ibx_matching.specs.Projection.{AreWords}
+use Rattle.ibx_time_system.specs.Projection.{AreWords}
 use Rattle.ibx_top.proofs.PlanWords.{empty_plan_words}
 use Rattle.ibx_top.proofs.task.run_plain.Goals as goal
 

@@ -1,6 +1,6 @@
 use Rattle.std.proofs.Common.{refl, sym, subst}
-use Rattle.ibx_machine.specs.Whole.{IsPlaced}
-use Rattle.ibx_matching.proofs.Files.{placed}
+use Rattle.ibx_time_machine.specs.Whole.{IsPlaced}
+use Rattle.ibx_time_system.proofs.Files.{placed}
 use Rattle.ibx_elf.specs.Image.{Placed}
 use Rattle.ibx_top.specs.ErrLines.{fault_line}
 use Rattle.ibx_top.specs.Answers.{Answer, IsBytesAnswer, IsSecond, refusal, setup_of}

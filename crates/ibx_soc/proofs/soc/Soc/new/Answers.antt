@@ -2,7 +2,7 @@ use Rattle.std.proofs.Common.{ℕ, ◌*◌, ◌%◌, length, ap, subst, sym, ◌
 use Rattle.ibx_core.specs.declared.state.State.{State}
 use Rattle.ibx_core.specs.Fields.{reset_of}
 use Rattle.ibx_elf.specs.Ram.{IsInRam}
-use Rattle.ibx_flips.specs.System.{Place, Whole}
+use Rattle.ibx_system.specs.System.{Place, Whole}
 use Rattle.ibx_lockstep.specs.Seen.{seen}
 use Rattle.ibx_soc.specs.First.{IsAsNew}
 use Rattle.ibx_soc.specs.Seen.{place_of}

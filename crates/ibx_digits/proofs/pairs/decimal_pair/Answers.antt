@@ -1,5 +1,0 @@
-use Rattle.ibx_digits.proofs.Tables.{decimal_entry}
-use Rattle.ibx_digits.proofs.pairs.decimal_pair.Goals as goal
-
-pub returns : goal.returns
-returns c = decimal_entry c.args.number c.requires

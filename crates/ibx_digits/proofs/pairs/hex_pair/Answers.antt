@@ -1,6 +1,0 @@
-use Rattle.std.proofs.Common.{arith}
-use Rattle.ibx_digits.proofs.Tables.{hex_entry}
-use Rattle.ibx_digits.proofs.pairs.hex_pair.Goals as goal
-
-pub returns : goal.returns
-returns c = hex_entry c.args.byte (omega (arith, c.ranges.byte.fits))

@@ -1,5 +1,0 @@
-use Rattle.ibx_matching.proofs.History.{two_core_laws}
-use Rattle.ibx_matching.proofs.law.runs_the_history.Goals as goal
-
-pub returns : goal.returns
-returns c = λ s w ok start. two_core_laws s ok w start

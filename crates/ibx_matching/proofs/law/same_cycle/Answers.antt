@@ -1,5 +1,0 @@
-use Rattle.ibx_matching.proofs.Outputs.{cycle_same}
-use Rattle.ibx_matching.proofs.law.same_cycle.Goals as goal
-
-pub returns : goal.returns
-returns c = λ x i. cycle_same x i

@@ -1,0 +1,9 @@
+pub mod Bus
+pub mod Compare
+pub mod Runs
+pub mod Codewords
+pub mod Gate
+pub mod Sites
+pub mod RealCore
+pub mod First
+pub mod Follows

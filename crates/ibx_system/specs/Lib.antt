@@ -1,0 +1,4 @@
+pub mod Core
+pub mod System
+pub mod Flips
+pub mod Runs

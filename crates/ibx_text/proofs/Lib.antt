@@ -1,0 +1,3 @@
+mod Reading
+pub mod Written
+pub mod Tables

@@ -1,0 +1,12 @@
+pub mod Accesses
+pub mod Quiet
+pub mod Fetches
+pub mod AdmitsParts
+pub mod AdmitsHead
+pub mod Admits
+pub mod SeesRows
+pub mod SeesAccess
+pub mod SeesLoads
+pub mod SeesStage
+pub mod SeesDummy
+pub mod Sees

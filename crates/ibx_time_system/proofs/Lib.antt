@@ -1,0 +1,15 @@
+pub mod Theorem
+pub mod Systems
+pub mod Unused
+pub mod Heard
+pub mod Writes
+pub mod Fillings
+pub mod Outputs
+pub mod Inputs
+pub mod Steps
+pub mod Kept
+pub mod Minors
+pub mod Runs
+pub mod History
+pub mod Reset
+pub mod Files
