@@ -23,8 +23,8 @@ use Rattle.ibx_trap.specs.Traps.{enter_of, enter_target, leave_of}
 use Rattle.ibx_csr.specs.declared.name.Csr.{Csr as Name}
 use Rattle.ibx_csr.specs.declared.name.Csr.TheVariants.{Mstatus, Misa, Mie, Mtvec, Mcountinhibit, Mscratch, Mepc}
 use Rattle.ibx_csr.specs.declared.name.Csr.TheVariants.{Mcause, Mtval, Mip, Pmpcfg, Pmpaddr, Cpuctrl, Secureseed}
-use Rattle.ibx_csr.specs.declared.name.Csr.TheVariants.{Mcycle, Mcycleh, Minstret, Minstreth, Marchid, Zero}
-use Rattle.ibx_csr.specs.Kept.{is_addr_locked}
+use Rattle.ibx_csr.specs.declared.name.Csr.TheVariants.{Mcycle, Mcycleh, Minstret, Minstreth, Marchid, Mseccfg, Zero}
+use Rattle.ibx_csr.specs.Kept.{is_addr_held}
 use Rattle.ibx_csr.specs.Table.{writable}
 use Rattle.ibx_csr.proofs.Legal.{kept_mepc-even}
 use Rattle.ibx_csr.specs.Values.{CsrValues, cfg_bytes, csr_can_write, csr_read, csr_reset, csr_tick, csr_write}
@@ -111,7 +111,7 @@ put_even v Mtval w h = h
 put_even v Mip w h = h
 put_even v (Pmpcfg k) w h = h
 put_even v (Pmpaddr k) w h =
-    if_even (is_addr_locked (cfg_bytes v) k) v (record v { pmpaddr = slice_set v.pmpaddr k w }) h h
+    if_even (is_addr_held v.mseccfg (cfg_bytes v) k) v (record v { pmpaddr = slice_set v.pmpaddr k w }) h h
 put_even v Cpuctrl w h = h
 put_even v Secureseed w h = h
 put_even v Mcycle w h = h
@@ -119,6 +119,7 @@ put_even v Mcycleh w h = h
 put_even v Minstret w h = h
 put_even v Minstreth w h = h
 put_even v Marchid w h = h
+put_even v Mseccfg w h = h
 put_even v Zero w h = h
 
 -- so it does where no CSR takes the value

@@ -1,7 +1,7 @@
 -- Loads and stores: their portions, who may make them, and what they leave (Unprivileged ISA, 2.6; Privileged ISA
 -- 1.12, 3.1.6.3 and 3.7).
 use Rattle.std.specs.Prelude.{ℕ, Bool, true, false, not, ◌&&◌, ◌==◌, if◌then◌else◌, Option, Some, None}
-use Rattle.ibx_csr.specs.Values.{CsrValues, cfg_bytes}
+use Rattle.ibx_csr.specs.Values.{CsrValues, cfg_bytes, sec_of}
 use Rattle.ibx_isa.specs.Portions.{parts_of, portion_addr, portion_size}
 use Rattle.ibx_pmp.specs.declared.protection.AccessKind.{AccessKind}
 use Rattle.ibx_pmp.specs.Ranges.{allowed}
@@ -16,8 +16,8 @@ has_second addr size = parts_of addr size == 2
 -- protection refuses a portion
 abbrev pub is_refused : CsrValues → ℕ → ℕ → AccessKind → Bool → Bool
 is_refused csrs addr size kind second =
-    not (allowed (cfg_bytes csrs) csrs.pmpaddr (portion_addr addr second) (portion_size addr size second) kind
-    (access_machine csrs))
+    not (allowed (sec_of csrs) (cfg_bytes csrs) csrs.pmpaddr (portion_addr addr second)
+    (portion_size addr size second) kind (access_machine csrs))
 
 -- the address of the portion that protection refuses, the first before the second
 unfoldable pub refused_at : CsrValues → ℕ → ℕ → AccessKind → Option ℕ

@@ -3,7 +3,7 @@ use Rattle.std.specs.Prelude.{ℕ, ◌+◌, ◌*◌, ◌%◌, ◌^◌, Bool, not
 use Rattle.ibx_isa.specs.Lengths.{is_long}
 use Rattle.ibx_pmp.specs.declared.protection.AccessKind.TheVariants.{Execute}
 use Rattle.ibx_pmp.specs.Ranges.{allowed}
-use Rattle.ibx_csr.specs.Values.{cfg_bytes, CsrValues}
+use Rattle.ibx_csr.specs.Values.{cfg_bytes, CsrValues, sec_of}
 use Rattle.ibx_arch.specs.declared.fetched.Fetched.{Fetched}
 use Rattle.ibx_arch.specs.declared.fetched.Fetched.TheVariants.{Unsound, Instruction}
 use Rattle.ibx_arch.specs.Memory.{is_mapped}
@@ -12,7 +12,8 @@ use Rattle.ibx_elf.specs.declared.ram.Ram.{Ram}
 
 -- a parcel may be executed: its word answers without an error, and protection allows it
 abbrev pub is_sound : CsrValues → Ram → ℕ → Bool
-is_sound csrs ram addr = is_mapped ram addr && allowed (cfg_bytes csrs) csrs.pmpaddr addr 2 Execute csrs.machine
+is_sound csrs ram addr =
+    is_mapped ram addr && allowed (sec_of csrs) (cfg_bytes csrs) csrs.pmpaddr addr 2 Execute csrs.machine
 
 -- what is fetched: the first parcel before the second, which only a long instruction has
 unfoldable pub fetch : State → ℕ → ℕ → Fetched

@@ -9,11 +9,6 @@ host_page = 0x20000
 abbrev pub host_page_end : ℕ
 host_page_end = 0x21000
 
--- the host's two registers: a word store to the first prints its low byte, and one to the second with bit 0 set ends
--- the run
-abbrev pub console_register : ℕ
-console_register = 0x20000
-
 -- the register that ends the run, by a word store with bit 0 set
 abbrev pub halt_register : ℕ
 halt_register = 0x20008

@@ -7,6 +7,4 @@ mod platform;
 mod tests;
 
 pub use byte::byte_at;
-pub use platform::{
-    CONSOLE_REGISTER, HALT_REGISTER, HOST_PAGE, HOST_PAGE_END, INTERRUPT_LINES, host_page_has,
-};
+pub use platform::{HALT_REGISTER, HOST_PAGE, HOST_PAGE_END, INTERRUPT_LINES, host_page_has};

@@ -7,9 +7,6 @@ pub const HOST_PAGE: u32 = 0x0002_0000;
 /// The first byte address after that page.
 pub const HOST_PAGE_END: u32 = 0x0002_1000;
 
-/// The byte address of the register whose word stores print their low byte.
-pub const CONSOLE_REGISTER: u32 = 0x0002_0000;
-
 /// The byte address of the register where a word store with bit 0 set ends the run.
 pub const HALT_REGISTER: u32 = 0x0002_0008;
 

@@ -3,6 +3,5 @@ pub mod Ports
 pub mod Times
 pub mod Steps
 pub mod Order
-pub mod Wires
 mod Examples
 pub mod Kept

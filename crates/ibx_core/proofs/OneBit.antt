@@ -59,17 +59,17 @@ flip_kept widths xs n k inside fits j one low =
 -- ---- the fields
 
 -- numbers whose one-bit fields are bits are those of the core that they give
-fields_core_of : (xs : List ℕ) → length xs ≡ 87
+fields_core_of : (xs : List ℕ) → length xs ≡ 89
     → slice_index xs 0 < 2 → slice_index xs 1 < 2 → slice_index xs 2 < 2 → slice_index xs 13 < 2
     → slice_index xs 14 < 2 → slice_index xs 16 < 2 → slice_index xs 17 < 2 → slice_index xs 32 < 2
     → fields (core_of xs) ≡ xs
 unfolding fields core_of listed
 fields_core_of xs len a b c d e f g h =
     rw (as_bit _ a, as_bit _ b, as_bit _ c, as_bit _ d, as_bit _ e, as_bit _ f, as_bit _ g, as_bit _ h)
-    (sym (at_length 87 xs len))
+    (sym (at_length 89 xs len))
 
--- there are 87 fields
-count_fields : (s : State) → length (fields s) ≡ 87
+-- there are 89 fields
+count_fields : (s : State) → length (fields s) ≡ 89
 unfolding fields
 count_fields s = refl
 
@@ -99,7 +99,7 @@ field_bits s = record {
 }
 
 -- a flip of a bit of a field
-pub flipped_fields : (s : State) (field k : ℕ) → field < 87 → k < width_of field
+pub flipped_fields : (s : State) (field k : ℕ) → field < 89 → k < width_of field
     → fields (field_flip field k s) ≡ number_flip field k (fields s)
 unfolding field_flip
 flipped_fields s field k inside fits =

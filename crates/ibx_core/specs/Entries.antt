@@ -1,12 +1,12 @@
 -- What enters the stage next: an interrupt that is pending, a dummy that is due, or the instruction whose parcels are
 -- there. Our own rule.
-use Rattle.std.specs.Prelude.{◌<◌, ◌≤◌, ℕ, ◌+◌, ◌*◌, ◌/◌, ◌%◌, ◌^◌, Bool, true, false, not, ◌&&◌, ◌==◌, Option, Some}
+use Rattle.std.specs.Prelude.{ℕ, ◌+◌, ◌*◌, ◌/◌, ◌%◌, ◌^◌, Bool, true, false, not, ◌&&◌, ◌==◌, Option, Some}
 use Rattle.std.specs.Prelude.{None, bit_and}
 use Rattle.ibx_isa.specs.ControlBits.{dummy_instr_en, dummy_instr_mask}
 use Rattle.ibx_isa.specs.Lengths.{is_long}
 use Rattle.ibx_csr.specs.declared.csrs.Csrs.{Csrs}
 use Rattle.ibx_csr.specs.Fields.{values}
-use Rattle.ibx_csr.specs.Values.{cfg_bytes}
+use Rattle.ibx_csr.specs.Values.{cfg_bytes, sec_of}
 use Rattle.ibx_pmp.specs.declared.protection.AccessKind.TheVariants.{Execute}
 use Rattle.ibx_pmp.specs.Ranges.{allowed}
 use Rattle.ibx_trap.specs.Interrupts.{pending_of}
@@ -16,7 +16,7 @@ use Rattle.ibx_prefetch.specs.declared.buffer.Head.{Head}
 use Rattle.ibx_id.specs.declared.stage.IdState.{IdState}
 use Rattle.ibx_id.specs.declared.stage.Turn.{Turn}
 use Rattle.ibx_id.specs.declared.stage.Turn.TheVariants.{Hold}
-use Rattle.ibx_id.specs.Turns.{IsWithinWidths, empty_stage}
+use Rattle.ibx_id.specs.Turns.{empty_stage}
 use Rattle.ibx_core.specs.declared.state.State.{State}
 use Rattle.ibx_core.specs.Effects.{Effect}
 
@@ -39,34 +39,53 @@ enables_dummies c = not (bit_and c.cpuctrl dummy_instr_en == 0)
 abbrev pub dummy_mask : Csrs → ℕ
 dummy_mask c = bit_and c.cpuctrl dummy_instr_mask / 8
 
--- By whether the first parcel is ready and sound, it is long, and the second is ready and sound. An unsound first
--- parcel is taken alone, and an unsound second with the first.
-unfoldable pub fetched_by : Bool → Bool → Bool → Bool → Bool → ℕ → ℕ → ℕ → DummyUnit → DummyUnit → Entry
-fetched_by false sound long ready2 sound2 pc first second d counted =
-    record { id = empty_stage; taken = 0; dummies = d }
-fetched_by true false long ready2 sound2 pc first second d counted =
-    record { id = enters 0 pc 0 1; taken = 1; dummies = counted }
-fetched_by true true false ready2 sound2 pc first second d counted =
-    record { id = enters 0 pc first 0; taken = 1; dummies = counted }
-fetched_by true true true false sound2 pc first second d counted = record { id = empty_stage; taken = 0; dummies = d }
-fetched_by true true true true false pc first second d counted =
-    record { id = enters 0 pc 0 2; taken = 2; dummies = counted }
-fetched_by true true true true true pc first second d counted =
+-- a parcel at the head of the buffer: it is awaited, or it came with an error or where protection forbids it, or it is
+-- a halfword of code
+pub data Parcel : Type 0 where
+  Awaited : Parcel
+  Unsound : Parcel
+  Sound : ℕ → Parcel
+
+-- a parcel by whether it is ready, whether it is sound, and its halfword
+abbrev pub parcel_by : Bool → Bool → ℕ → Parcel
+parcel_by false sound half = Awaited
+parcel_by true false half = Unsound
+parcel_by true true half = Sound half
+
+-- nothing enters, and the dummies stay
+abbrev pub nothing_enters : DummyUnit → Entry
+nothing_enters d = record { id = empty_stage; taken = 0; dummies = d }
+
+-- a sound first parcel, by whether it is long: a long one waits for the second, and an unsound second is taken with it
+abbrev pub completed_by : Bool → ℕ → Parcel → ℕ → DummyUnit → DummyUnit → Entry
+completed_by false first second pc d counted = record { id = enters 0 pc first 0; taken = 1; dummies = counted }
+completed_by true first Awaited pc d counted = nothing_enters d
+completed_by true first Unsound pc d counted = record { id = enters 0 pc 0 2; taken = 2; dummies = counted }
+completed_by true first (Sound second) pc d counted =
     record { id = enters 0 pc (first + 2 ^ 16 * second) 0; taken = 2; dummies = counted }
 
--- no entry of protection is in use, as at reset
+-- What comes of the first two parcels at a program counter, with the dummies before and with this instruction counted.
+-- An unsound first parcel is taken alone.
+unfoldable pub fetched_by : Parcel → Parcel → ℕ → DummyUnit → DummyUnit → Entry
+fetched_by Awaited second pc d counted = nothing_enters d
+fetched_by Unsound second pc d counted = record { id = enters 0 pc 0 1; taken = 1; dummies = counted }
+fetched_by (Sound first) second pc d counted = completed_by (is_long first) first second pc d counted
+
+-- no entry of protection is in use, and M needs none, as at reset
 abbrev pub is_unset : Csrs → Bool
-is_unset c = c.pmpcfg0 == 0 && (c.pmpcfg1 == 0 && (c.pmpcfg2 == 0 && c.pmpcfg3 == 0))
+is_unset c =
+    c.pmpcfg0 == 0 && (c.pmpcfg1 == 0 && (c.pmpcfg2 == 0 && (c.pmpcfg3 == 0 && c.mseccfg == 0)))
 
 -- protection lets the parcel at this address be executed
 unfoldable pub may_execute : Csrs → ℕ → Bool
-may_execute c addr = allowed (cfg_bytes (values c)) (values c).pmpaddr (addr / 2 * 2) 2 Execute c.priv_
+may_execute c addr =
+    allowed (sec_of (values c)) (cfg_bytes (values c)) (values c).pmpaddr (addr / 2 * 2) 2 Execute c.priv_
 
 -- the instruction of the buffer's first parcels, each sound where its answer had no error and protection lets it run
 unfoldable pub fetched_of : Head → Csrs → DummyUnit → ℕ → Entry
 fetched_of h c d pc =
-    fetched_by h.first.ready (not h.first.err && may_execute c pc) (is_long h.first.half) h.second.ready
-    (not h.second.err && may_execute c ((pc + 2) % 2 ^ 32)) pc h.first.half h.second.half d
+    fetched_by (parcel_by h.first.ready (not h.first.err && may_execute c pc) h.first.half)
+    (parcel_by h.second.ready (not h.second.err && may_execute c ((pc + 2) % 2 ^ 32)) h.second.half) pc d
     (counted_by (enables_dummies c) d)
 
 -- by the interrupt that is pending, and whether a dummy is due
@@ -86,12 +105,6 @@ abbrev pub admits_by : Turn → Head → Effect → ℕ → Entry
 admits_by turn h e lines = admits_at turn h e.csrs e.dummies e.next_pc lines
 
 -- ---- widths
-
--- at most two parcels are taken, and the item and the count of the dummies keep their widths
-pub record IsEntry (n : Entry) : Type 0 where
-  pub id : IsWithinWidths n.id
-  pub taken : n.taken ≤ 2
-  pub dummies : n.dummies.dcount < 2 ^ 5
 
 -- the fields once it has entered
 abbrev pub entered : State → Entry → State

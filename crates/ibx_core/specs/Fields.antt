@@ -80,12 +80,16 @@ addr_n_fields s =
     ∷ s.csrs.pmpaddr10_n ∷ s.csrs.pmpaddr11_n ∷ s.csrs.pmpaddr12_n ∷ s.csrs.pmpaddr13_n ∷ s.csrs.pmpaddr14_n
     ∷ s.csrs.pmpaddr15_n ∷ []
 
+-- how the protection unit reads its entries, and the complement of that, 87 and 88
+abbrev pub sec_fields : State → List ℕ
+sec_fields s = s.csrs.mseccfg ∷ s.csrs.mseccfg_n ∷ []
+
 -- all fields, by number
 unfoldable pub fields : State → List ℕ
 fields s =
     fetch_fields s ++ (words_fields s ++ (id_fields s ++ (md_fields s ++ (ls_fields s ++ (dummies_fields s
     ++ (next_pc_fields s ++ (trap_fields s ++ (cfg_fields s ++ (addr_fields s ++ (trap_n_fields s
-    ++ (cfg_n_fields s ++ (addr_n_fields s))))))))))))
+    ++ (cfg_n_fields s ++ (addr_n_fields s ++ (sec_fields s)))))))))))))
 
 -- the widths in bits, by number
 abbrev pub widths : List ℕ
@@ -93,7 +97,7 @@ widths =
     1 ∷ 1 ∷ 1 ∷ 32 ∷ 33 ∷ 33 ∷ 33 ∷ 2 ∷ 32 ∷ 4 ∷ 32 ∷ 33 ∷ 33 ∷ 1 ∷ 1 ∷ 9 ∷ 1 ∷ 1 ∷ 2 ∷ 32 ∷ 32 ∷ 2 ∷ 3 ∷ 6 ∷ 64 ∷ 64
     ∷ 64 ∷ 3 ∷ 32 ∷ 32 ∷ 5 ∷ 32 ∷ 1 ∷ 32 ∷ 32 ∷ 32 ∷ 32 ∷ 32 ∷ 32 ∷ 32 ∷ 32 ∷ 32 ∷ 64 ∷ 64 ∷ 32 ∷ 32 ∷ 32 ∷ 32 ∷ 32
     ∷ 32 ∷ 32 ∷ 32 ∷ 32 ∷ 32 ∷ 32 ∷ 32 ∷ 32 ∷ 32 ∷ 32 ∷ 32 ∷ 32 ∷ 32 ∷ 32 ∷ 32 ∷ 32 ∷ 32 ∷ 32 ∷ 32 ∷ 32 ∷ 32 ∷ 32 ∷ 32
-    ∷ 32 ∷ 32 ∷ 32 ∷ 32 ∷ 32 ∷ 32 ∷ 32 ∷ 32 ∷ 32 ∷ 32 ∷ 32 ∷ 32 ∷ 32 ∷ 32 ∷ 32 ∷ []
+    ∷ 32 ∷ 32 ∷ 32 ∷ 32 ∷ 32 ∷ 32 ∷ 32 ∷ 32 ∷ 32 ∷ 32 ∷ 32 ∷ 32 ∷ 32 ∷ 32 ∷ 32 ∷ 32 ∷ 32 ∷ []
 
 -- the width in bits of the field of this number
 abbrev pub width_of : ℕ → ℕ

@@ -101,6 +101,8 @@ core_of xs = record {
     pmpaddr13_n = slice_index xs 84;
     pmpaddr14_n = slice_index xs 85;
     pmpaddr15_n = slice_index xs 86;
+    mseccfg = slice_index xs 87;
+    mseccfg_n = slice_index xs 88;
   };
 }
 

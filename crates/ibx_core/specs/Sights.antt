@@ -22,7 +22,7 @@ use Rattle.ibx_secded.specs.Code.{payload_of}
 use Rattle.ibx_csr.specs.declared.csrs.Csrs.{Csrs}
 use Rattle.ibx_csr.specs.Fields.{values}
 use Rattle.ibx_csr.specs.Modes.{access_machine, may_wait}
-use Rattle.ibx_csr.specs.Values.{csr_can_write, csr_read, cfg_bytes}
+use Rattle.ibx_csr.specs.Values.{csr_can_write, csr_read, cfg_bytes, sec_of}
 use Rattle.ibx_pmp.specs.declared.protection.AccessKind.TheVariants.{Read, Write}
 use Rattle.ibx_pmp.specs.Ranges.{allowed}
 use Rattle.ibx_lsu.specs.declared.unit.Lsu.{Lsu}
@@ -73,7 +73,7 @@ access_by insn a b = None
 -- protection refuses a portion of an access
 unfoldable pub is_denied : Csrs → Access → Bool → Bool
 is_denied c w second =
-    not (allowed (cfg_bytes (values c)) (values c).pmpaddr (portion_addr w.addr second)
+    not (allowed (sec_of (values c)) (cfg_bytes (values c)) (values c).pmpaddr (portion_addr w.addr second)
     (portion_size w.addr w.size second) (if w.store then Write else Read) (access_machine (values c)))
 
 -- an access that crosses a word has a second portion

@@ -15,7 +15,7 @@ impl State {
     /// The field of a number.
     #[tactic(auto, unfolding(crate::specs::Fields::fields))]
     pub fn get(&self, field: u8) -> u64
-        requires { field < 87 }
+        requires { field < 89 }
         ensures value { result ≡ slice_index (fields self.now) field }
         ensures fits { Fits self.now → result < 2 ^ width_of field }
     {
@@ -107,6 +107,8 @@ impl State {
             84 => u64::from(self.csrs.pmpaddr13_n),
             85 => u64::from(self.csrs.pmpaddr14_n),
             86 => u64::from(self.csrs.pmpaddr15_n),
+            87 => u64::from(self.csrs.mseccfg),
+            88 => u64::from(self.csrs.mseccfg_n),
             _ => 0,
         }
     }
@@ -114,7 +116,7 @@ impl State {
     /// Sets the field of a number.
     #[tactic(auto, using(crate::proofs::Bits::bit_of_test), unfolding(crate::specs::Fields::fields))]
     pub fn set(&mut self, field: u8, value: u64)
-        requires inside { field < 87 }
+        requires inside { field < 89 }
         requires fits { value < 2 ^ width_of field }
         ensures changed { fields self.new ≡ slice_set (fields self.old) field value }
         ensures kept { Fits self.old → Fits self.new }
@@ -207,6 +209,8 @@ impl State {
             84 => self.csrs.pmpaddr13_n = value as u32,
             85 => self.csrs.pmpaddr14_n = value as u32,
             86 => self.csrs.pmpaddr15_n = value as u32,
+            87 => self.csrs.mseccfg = value as u32,
+            88 => self.csrs.mseccfg_n = value as u32,
             _ => {}
         }
     }

@@ -1,4 +1,4 @@
-//! The core: 87 fields, and what a cycle makes of them and of the wires in. It is total on every value of its fields
+//! The core: 89 fields, and what a cycle makes of them and of the wires in. It is total on every value of its fields
 //! within their widths, and has no other state.
 #![tactic(auto)]
 

@@ -12,7 +12,7 @@ use crate::state::State;
 use crate::wires::{In, Out};
 use std::marker::Model;
 
-/// The core. Its 87 fields are within their widths, and it has no other state.
+/// The core. Its 89 fields are within their widths, and it has no other state.
 #[derive(Clone, Copy, Debug, PartialEq, Eq)]
 pub struct Core {
     state: State,
@@ -42,10 +42,10 @@ impl Core {
         }
     }
 
-    /// The field of a number, below 87.
+    /// The field of a number, below 89.
     #[tactic(auto, using(crate::proofs::EqualFields::fields_injective, crate::proofs::Widths::width_is))]
     pub fn get(&self, field: u8) -> u64
-        requires { field < 87 }
+        requires { field < 89 }
         ensures value { result ≡ slice_index (fields self.now) field }
         ensures fits { result < 2 ^ width_in field_table field }
         // The fields are all that there is.
@@ -54,10 +54,10 @@ impl Core {
         self.state.get(field)
     }
 
-    /// Sets the field of a number, below 87. The others stay.
+    /// Sets the field of a number, below 89. The others stay.
     #[tactic(auto, using(crate::proofs::Widths::width_is))]
     pub fn set(&mut self, field: u8, value: u64)
-        requires inside { field < 87 }
+        requires inside { field < 89 }
         requires fits { value < 2 ^ width_in field_table field }
         ensures { fields self.new ≡ slice_set (fields self.old) field value }
     {

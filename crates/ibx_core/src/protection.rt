@@ -1,6 +1,6 @@
 ghost use Rattle.std.specs.Prelude.{◌≡◌, ◌≤◌, ◌+◌, ◌%◌};
 ghost use Rattle.ibx_csr.specs.Fields.{values};
-ghost use Rattle.ibx_csr.specs.Values.{cfg_bytes};
+ghost use Rattle.ibx_csr.specs.Values.{cfg_bytes, sec_of};
 ghost use Rattle.ibx_pmp.specs.Ranges.{allowed};
 ghost use Rattle.ibx_core.specs.Entries.{is_unset as is_unset_of, may_execute as may_execute_of};
 ghost use Rattle.ibx_core.specs.Sights.{is_denied as is_denied_of};
@@ -12,25 +12,32 @@ use ibx_pmp::{AccessKind, PmpRegs, allow};
 fn entries(csrs: &Csrs) -> PmpRegs
     ensures cfg { result.cfg ≡ cfg_bytes (values csrs.now) }
     ensures addr { result.addr ≡ (values csrs.now).pmpaddr }
+    ensures sec { result.sec ≡ sec_of (values csrs.now) }
 {
     let view = csrs.pmp();
     let cfg = view.cfg;
     let addr = view.addr;
-    PmpRegs { cfg, addr }
+    let sec = view.sec;
+    PmpRegs { cfg, addr, sec }
 }
 
-// No entry is in use, as at reset: then M may do all and U nothing.
+// No entry is in use, and M needs none, as at reset: then M may do all and U nothing.
 fn is_unset(csrs: &Csrs) -> bool
     ensures { result ≡ is_unset_of csrs.now }
 {
-    csrs.pmpcfg0 == 0 && csrs.pmpcfg1 == 0 && csrs.pmpcfg2 == 0 && csrs.pmpcfg3 == 0
+    csrs.pmpcfg0 == 0
+        && csrs.pmpcfg1 == 0
+        && csrs.pmpcfg2 == 0
+        && csrs.pmpcfg3 == 0
+        && csrs.mseccfg == 0
 }
 
 // What the entries say, which aren't searched where none is in use.
 #[tactic(auto, using(crate::proofs::Unset::unset_allows))]
 fn allows(csrs: &Csrs, addr: u32, size: u8, kind: AccessKind, machine: bool) -> bool
     requires { addr % 4 + size ≤ 4 }
-    ensures { result ≡ allowed (cfg_bytes (values csrs.now)) (values csrs.now).pmpaddr addr size kind machine }
+    ensures { result ≡ allowed (sec_of (values csrs.now)) (cfg_bytes (values csrs.now)) (values csrs.now).pmpaddr
+        addr size kind machine }
 {
     if is_unset(csrs) {
         machine

@@ -9,10 +9,10 @@ use Rattle.ibx_isa.specs.ControlBits.{cy_bit}
 use Rattle.ibx_csr.specs.declared.name.Csr.{Csr}
 use Rattle.ibx_csr.specs.declared.name.Csr.TheVariants.{Mstatus, Mie, Mtvec, Mcountinhibit, Mscratch, Mepc, Mcause}
 use Rattle.ibx_csr.specs.declared.name.Csr.TheVariants.{Mtval, Pmpcfg, Pmpaddr, Cpuctrl, Mcycle, Mcycleh, Minstret}
-use Rattle.ibx_csr.specs.declared.name.Csr.TheVariants.{Minstreth}
+use Rattle.ibx_csr.specs.declared.name.Csr.TheVariants.{Minstreth, Mseccfg}
 use Rattle.ibx_csr.specs.declared.csrs.Csrs.{Csrs}
 use Rattle.ibx_csr.specs.Table.{readable, writable, csr_of, is_read_only}
-use Rattle.ibx_csr.specs.Kept.{is_addr_locked, stored_cfg}
+use Rattle.ibx_csr.specs.Kept.{is_addr_held, stored_cfg}
 use Rattle.ibx_csr.specs.Values.{CsrValues, value_of, value_at, is_there, csr_read, put_value, put_at as put_value_at}
 use Rattle.ibx_csr.specs.Values.{csr_write, csr_tick, counters_after, cfg_bytes}
 use Rattle.ibx_csr.specs.Fields.{values, cfgs, addrs, put_cfg, put_addr, put_of, put_at, write_of}
@@ -69,8 +69,8 @@ unless_locked s k w false = put_addr-values s k w
 -- so each write is the write to the registers: of one register, of one that there may be, and of an address
 put-values : (s : Csrs) (c : Csr) (w : ℕ) → values (put_of s c w) ≡ put_value (values s) c w
 unfolding values put_of put_value
-put-values s (Pmpcfg k) w = put_cfg-values s k (stored_cfg (slice_index (cfgs s) k) w)
-put-values s (Pmpaddr k) w = unless_locked s k w (is_addr_locked (cfg_bytes (values s)) k)
+put-values s (Pmpcfg k) w = put_cfg-values s k (stored_cfg s.mseccfg (slice_index (cfgs s) k) w)
+put-values s (Pmpaddr k) w = unless_locked s k w (is_addr_held s.mseccfg (cfg_bytes (values s)) k)
 put-values s _ w = refl
 
 -- where there is no register to write, neither the fields nor the registers change
@@ -96,7 +96,7 @@ stays : (v : CsrValues) (c d : Csr) (w lines : ℕ) → w < 2 ^ 32 → c ≢ d
     → value_of (put_value v c w) d lines ≡ value_of v d lines
 unfolding put_value value_of
 stays v (Pmpcfg k) (Pmpcfg j) w lines small ne = get_or-set_other v.pmpcfg k j _ 0 (λ e. ne (ap Pmpcfg (sym e)))
-stays v (Pmpaddr k) d w lines small ne = addr-stays v k d w lines (is_addr_locked (cfg_bytes v) k) ne
+stays v (Pmpaddr k) d w lines small ne = addr-stays v k d w lines (is_addr_held v.mseccfg (cfg_bytes v) k) ne
 stays v Mcycle Mcycleh w lines small ne = omega arith
 stays v Mcycleh Mcycle w lines small ne = omega arith
 stays v Minstret Minstreth w lines small ne = omega arith
@@ -114,6 +114,7 @@ stays v Mcycle Mcycle w lines small ne = absurd (ne refl)
 stays v Mcycleh Mcycleh w lines small ne = absurd (ne refl)
 stays v Minstret Minstret w lines small ne = absurd (ne refl)
 stays v Minstreth Minstreth w lines small ne = absurd (ne refl)
+stays v Mseccfg Mseccfg w lines small ne = absurd (ne refl)
 stays v _ _ w lines small ne = refl
 
 -- the same of the register that there may be
@@ -140,7 +141,7 @@ write-others v a w d lines small ne =
 put-machine : (v : CsrValues) (c : Csr) (w : ℕ) → (put_value v c w).machine ≡ v.machine
 unfolding put_value
 put-machine v (Pmpaddr k) w =
-    elim (cases_Bool (is_addr_locked (cfg_bytes v) k)) [ inl e ↦ rw e refl | inr e ↦ rw e refl ]
+    elim (cases_Bool (is_addr_held v.mseccfg (cfg_bytes v) k)) [ inl e ↦ rw e refl | inr e ↦ rw e refl ]
 put-machine v _ w = refl
 
 -- nor does a write where there may be no register to take it

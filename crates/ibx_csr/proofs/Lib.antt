@@ -2,3 +2,4 @@ pub mod Sound
 pub mod Laws
 pub mod Legal
 pub mod Words
+pub mod Widths

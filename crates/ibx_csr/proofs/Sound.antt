@@ -3,10 +3,10 @@ use Rattle.std.proofs.Common.{inl, inr, ◌≡◌, ℕ, Bool, true, false, not, 
 use Rattle.std.specs.Prelude.{◌||◌, ◌==◌, Option, Some, None, ◌↔◌, if◌then◌else◌, slice_set, zero, suc}
 use Rattle.std.proofs.lemmas.Bool.{cases_Bool, eqb-true, eq-eqb}
 use Rattle.ibx_csr.specs.declared.name.Csr.{Csr}
-use Rattle.ibx_csr.specs.declared.name.Csr.TheVariants.{Mstatus, Mtvec, Pmpcfg, Pmpaddr, Cpuctrl}
+use Rattle.ibx_csr.specs.declared.name.Csr.TheVariants.{Mstatus, Mtvec, Pmpcfg, Pmpaddr, Cpuctrl, Mseccfg}
 use Rattle.ibx_csr.specs.declared.csrs.Csrs.{Csrs}
 use Rattle.ibx_csr.specs.Table.{writable}
-use Rattle.ibx_csr.specs.Kept.{is_addr_locked}
+use Rattle.ibx_csr.specs.Kept.{is_addr_held}
 use Rattle.ibx_csr.specs.Values.{cfg_bytes}
 use Rattle.ibx_csr.specs.Fields.{values, put_cfg, put_addr, put_of, put_at, write_of, guarded_trap, guarded_cfg}
 use Rattle.ibx_csr.specs.Fields.{guarded_low, guarded_high, AreComplements, Complemented, any_glitch, glitch_of}
@@ -114,8 +114,9 @@ unfolding put_of
 put-sound s Mstatus w h = complemented _ (replaced (guarded_trap s) 0 _ h.trap) h.cfg h.low h.high
 put-sound s Mtvec w h = complemented _ (replaced (guarded_trap s) 1 _ h.trap) h.cfg h.low h.high
 put-sound s Cpuctrl w h = complemented _ (replaced (guarded_trap s) 2 _ h.trap) h.cfg h.low h.high
+put-sound s Mseccfg w h = complemented _ (replaced (guarded_trap s) 3 _ h.trap) h.cfg h.low h.high
 put-sound s (Pmpcfg k) w h = put_cfg-sound s k _ h
-put-sound s (Pmpaddr k) w h = either (is_addr_locked (cfg_bytes (values s)) k) _ _ h (put_addr-sound s k w h)
+put-sound s (Pmpaddr k) w h = either (is_addr_held s.mseccfg (cfg_bytes (values s)) k) _ _ h (put_addr-sound s k w h)
 put-sound s _ w h = complemented _ h.trap h.cfg h.low h.high
 
 -- a write keeps the complements also where there is no register to take it

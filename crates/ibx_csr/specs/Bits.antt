@@ -2,10 +2,11 @@
 use Rattle.std.specs.Prelude.{ℕ, ◌+◌, ◌-◌, ◌^◌, Bool, true, false, bit_and, bit_or, Option, Some, None}
 use Rattle.ibx_bits.specs.Platform.{interrupt_lines}
 use Rattle.ibx_isa.specs.ControlBits.{mie_bit, mpie_bit, mpp_bits, mprv_bit, tw_bit, cy_bit, ir_bit}
+use Rattle.ibx_isa.specs.ControlBits.{mml_bit, mmwp_bit, rlb_bit}
 use Rattle.ibx_csr.specs.declared.name.Csr.{Csr}
 use Rattle.ibx_csr.specs.declared.name.Csr.TheVariants.{Mstatus, Misa, Mie, Mtvec, Mcountinhibit, Mscratch, Mepc}
 use Rattle.ibx_csr.specs.declared.name.Csr.TheVariants.{Mcause, Mtval, Mip, Pmpcfg, Pmpaddr, Cpuctrl, Secureseed}
-use Rattle.ibx_csr.specs.declared.name.Csr.TheVariants.{Mcycle, Mcycleh, Minstret, Minstreth, Marchid, Zero}
+use Rattle.ibx_csr.specs.declared.name.Csr.TheVariants.{Mcycle, Mcycleh, Minstret, Minstreth, Marchid, Mseccfg, Zero}
 use Rattle.ibx_csr.specs.declared.bits.CsrBits.{CsrBits}
 use Rattle.ibx_csr.specs.Table.{csr_of}
 
@@ -14,10 +15,12 @@ use Rattle.ibx_csr.specs.Table.{csr_of}
 abbrev pub row : ℕ → ℕ → Bool → CsrBits
 row kept value control = record { kept = kept; value = value; control = control }
 
--- The table (Privileged ISA 1.12, 3.1 and 3.7; cpuctrl, secureseed and the choice of control registers are our own).
+-- The table (Privileged ISA 1.12, 3.1 and 3.7; cpuctrl, secureseed, mseccfg and the choice of control registers are our
+-- own).
 -- mie has software 3, timer 7, external 11 and fast 30:16; mtvec a base at a multiple of 256, and the vectored mode;
 -- mcause interrupt 31 and the number 4:0. mip reads the interrupt lines. The configuration of the protection unit is
--- kept by its bytes and locks, mstatus by the rule of MPP beside its bits, and secureseed by no register of these.
+-- kept by its bytes and locks, mstatus by the rule of MPP beside its bits, mseccfg by the rules of its three bits, and
+-- secureseed by no register of these.
 abbrev pub bits_of : Csr → CsrBits
 bits_of Mstatus = row (mie_bit + mpie_bit + mpp_bits + mprv_bit + tw_bit) mpie_bit true
 bits_of Misa = row 0 0x40101104 false
@@ -38,6 +41,7 @@ bits_of Mcycleh = row 0xffffffff 0 false
 bits_of Minstret = row 0xffffffff 0 false
 bits_of Minstreth = row 0xffffffff 0 false
 bits_of Marchid = row 0 0x00000016 false
+bits_of Mseccfg = row (mml_bit + mmwp_bit + rlb_bit) 0 true
 bits_of Zero = row 0 0 false
 
 -- a word as a register with these bits holds it: its kept bits, and the fixed ones

@@ -8,10 +8,10 @@ use Rattle.ibx_isa.specs.declared.trap.TrapRegs.{TrapRegs}
 use Rattle.ibx_csr.specs.declared.name.Csr.{Csr}
 use Rattle.ibx_csr.specs.declared.name.Csr.TheVariants.{Mstatus, Mie, Mtvec, Mcountinhibit, Mscratch, Mepc, Mcause}
 use Rattle.ibx_csr.specs.declared.name.Csr.TheVariants.{Mtval, Pmpcfg, Pmpaddr, Cpuctrl, Mcycle, Mcycleh, Minstret}
-use Rattle.ibx_csr.specs.declared.name.Csr.TheVariants.{Minstreth}
+use Rattle.ibx_csr.specs.declared.name.Csr.TheVariants.{Minstreth, Mseccfg}
 use Rattle.ibx_csr.specs.declared.csrs.Csrs.{Csrs}
 use Rattle.ibx_csr.specs.Table.{writable}
-use Rattle.ibx_csr.specs.Kept.{stored_mstatus, with_low, with_high, stored_cfg, is_addr_locked}
+use Rattle.ibx_csr.specs.Kept.{stored_mstatus, with_low, with_high, stored_cfg, is_addr_held, stored_sec}
 use Rattle.ibx_csr.specs.Values.{CsrValues, counted, mcycle_stands, minstret_stands, cfg_bytes, kept_regs}
 use Rattle.ibx_isa.specs.ControlBits.{cy_bit}
 use Rattle.ibx_csr.specs.Bits.{legal_of, at_reset}
@@ -42,6 +42,7 @@ values s = record {
   minstret = s.minstret;
   pmpcfg = cfgs s;
   pmpaddr = addrs s;
+  mseccfg = s.mseccfg;
 }
 
 -- at reset, with the complements
@@ -103,6 +104,8 @@ reset_of entry =
       pmpaddr13_n = complement addr;
       pmpaddr14_n = complement addr;
       pmpaddr15_n = complement addr;
+      mseccfg = at_reset Mseccfg;
+      mseccfg_n = complement (at_reset Mseccfg);
     }
 
 -- a word of configuration or an address with its complement; there is none of a higher number
@@ -145,13 +148,15 @@ put_of s Mscratch w = record s { mscratch = legal_of Mscratch w }
 put_of s Mepc w = record s { mepc = legal_of Mepc w }
 put_of s Mcause w = record s { mcause = legal_of Mcause w }
 put_of s Mtval w = record s { mtval = legal_of Mtval w }
-put_of s (Pmpcfg k) w = put_cfg s k (stored_cfg (slice_index (cfgs s) k) w)
-put_of s (Pmpaddr k) w = if is_addr_locked (cfg_bytes (values s)) k then s else put_addr s k w
+put_of s (Pmpcfg k) w = put_cfg s k (stored_cfg s.mseccfg (slice_index (cfgs s) k) w)
+put_of s (Pmpaddr k) w = if is_addr_held s.mseccfg (cfg_bytes (values s)) k then s else put_addr s k w
 put_of s Cpuctrl w = record s { cpuctrl = legal_of Cpuctrl w; cpuctrl_n = complement (legal_of Cpuctrl w) }
 put_of s Mcycle w = record s { mcycle = with_low s.mcycle w }
 put_of s Mcycleh w = record s { mcycle = with_high s.mcycle w }
 put_of s Minstret w = record s { minstret = with_low s.minstret w }
 put_of s Minstreth w = record s { minstret = with_high s.minstret w }
+put_of s Mseccfg w =
+    let sec = stored_sec s.mseccfg (cfg_bytes (values s)) w in record s { mseccfg = sec; mseccfg_n = complement sec }
 put_of s _ w = s
 
 -- a write to the register that there is, if there is one
@@ -189,10 +194,11 @@ with_regs s r = let k = kept_regs r in record s {
   cpuctrl_n = complement k.cpuctrl;
 }
 
--- each guarded register with its complement: those of traps, the words of configuration, and the addresses of entries
--- 0 to 7 and 8 to 15
+-- each guarded register with its complement: those of traps and mseccfg, the words of configuration, and the addresses
+-- of entries 0 to 7 and 8 to 15
 abbrev pub guarded_trap : Csrs → List (ℕ × ℕ)
-guarded_trap s = (s.mstatus, s.mstatus_n) ∷ (s.mtvec, s.mtvec_n) ∷ (s.cpuctrl, s.cpuctrl_n) ∷ []
+guarded_trap s =
+    (s.mstatus, s.mstatus_n) ∷ (s.mtvec, s.mtvec_n) ∷ (s.cpuctrl, s.cpuctrl_n) ∷ (s.mseccfg, s.mseccfg_n) ∷ []
 
 -- pmpcfg0 to pmpcfg3, which hold the configuration of four entries each
 abbrev pub guarded_cfg : Csrs → List (ℕ × ℕ)

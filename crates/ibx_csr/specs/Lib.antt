@@ -4,3 +4,4 @@ pub mod Kept
 pub mod Values
 pub mod Modes
 pub mod Fields
+pub mod Widths

@@ -5,15 +5,15 @@ use Rattle.ibx_isa.specs.declared.trap.TrapRegs.{TrapRegs}
 use Rattle.ibx_csr.specs.declared.name.Csr.{Csr}
 use Rattle.ibx_csr.specs.declared.name.Csr.TheVariants.{Mstatus, Mie, Mtvec, Mcountinhibit, Mscratch, Mepc, Mcause}
 use Rattle.ibx_csr.specs.declared.name.Csr.TheVariants.{Mtval, Mip, Pmpcfg, Pmpaddr, Cpuctrl, Mcycle, Mcycleh}
-use Rattle.ibx_csr.specs.declared.name.Csr.TheVariants.{Minstret, Minstreth}
+use Rattle.ibx_csr.specs.declared.name.Csr.TheVariants.{Minstret, Minstreth, Mseccfg}
 use Rattle.ibx_isa.specs.ControlBits.{cy_bit, ir_bit}
 use Rattle.ibx_csr.specs.Bits.{legal_of, at_reset}
 use Rattle.ibx_csr.specs.Table.{csr_of, readable, writable}
 use Rattle.ibx_csr.specs.Kept.{kept_mstatus, stored_mstatus, kept_mtvec, kept_mepc, with_low, with_high, stored_cfg}
-use Rattle.ibx_csr.specs.Kept.{bytes_of, is_addr_locked}
+use Rattle.ibx_csr.specs.Kept.{bytes_of, is_addr_held, stored_sec}
 
 -- the mode, true for M, the registers, and the counters with 64 bits; four words of configuration and
--- sixteen addresses of the protection unit
+-- sixteen addresses of the protection unit, and the bits that say how it reads them
 pub record CsrValues : Type 0 where
   pub machine : Bool
   pub mstatus : ℕ
@@ -29,6 +29,7 @@ pub record CsrValues : Type 0 where
   pub minstret : ℕ
   pub pmpcfg : List ℕ
   pub pmpaddr : List ℕ
+  pub mseccfg : ℕ
 
 -- at reset the mode is M, and the handlers lie below the entry (our own reset values)
 unfoldable pub csr_reset : ℕ → CsrValues
@@ -49,6 +50,7 @@ csr_reset entry = let cfg = at_reset (Pmpcfg 0) in let addr = at_reset (Pmpaddr 
   pmpaddr =
       addr ∷ addr ∷ addr ∷ addr ∷ addr ∷ addr ∷ addr ∷ addr ∷ addr ∷ addr ∷ addr ∷ addr ∷ addr ∷ addr ∷ addr ∷ addr
       ∷ [];
+  mseccfg = at_reset Mseccfg;
 }
 
 -- what a register reads; mip reads the interrupt lines
@@ -69,6 +71,7 @@ value_of v Mcycle lines = v.mcycle % 2 ^ 32
 value_of v Mcycleh lines = v.mcycle / 2 ^ 32
 value_of v Minstret lines = v.minstret % 2 ^ 32
 value_of v Minstreth lines = v.minstret / 2 ^ 32
+value_of v Mseccfg lines = v.mseccfg
 value_of v c lines = at_reset c
 
 -- what the register reads that there is, if there is one
@@ -84,6 +87,10 @@ csr_read v a lines = value_at v lines (readable v.machine a)
 abbrev pub cfg_bytes : CsrValues → List ℕ
 cfg_bytes v = bytes_of v.pmpcfg
 
+-- MML, MMWP and RLB, as the protection unit sees them
+abbrev pub sec_of : CsrValues → ℕ
+sec_of v = v.mseccfg % 8
+
 -- what a write to a register leaves: its legal bits, and where it has a rule of its own, what that says;
 -- no other register is stored
 unfoldable pub put_value : CsrValues → Csr → ℕ → CsrValues
@@ -95,14 +102,16 @@ put_value v Mscratch w = record v { mscratch = legal_of Mscratch w }
 put_value v Mepc w = record v { mepc = legal_of Mepc w }
 put_value v Mcause w = record v { mcause = legal_of Mcause w }
 put_value v Mtval w = record v { mtval = legal_of Mtval w }
-put_value v (Pmpcfg k) w = record v { pmpcfg = slice_set v.pmpcfg k (stored_cfg (slice_index v.pmpcfg k) w) }
+put_value v (Pmpcfg k) w =
+    record v { pmpcfg = slice_set v.pmpcfg k (stored_cfg v.mseccfg (slice_index v.pmpcfg k) w) }
 put_value v (Pmpaddr k) w =
-    if is_addr_locked (cfg_bytes v) k then v else record v { pmpaddr = slice_set v.pmpaddr k w }
+    if is_addr_held v.mseccfg (cfg_bytes v) k then v else record v { pmpaddr = slice_set v.pmpaddr k w }
 put_value v Cpuctrl w = record v { cpuctrl = legal_of Cpuctrl w }
 put_value v Mcycle w = record v { mcycle = with_low v.mcycle w }
 put_value v Mcycleh w = record v { mcycle = with_high v.mcycle w }
 put_value v Minstret w = record v { minstret = with_low v.minstret w }
 put_value v Minstreth w = record v { minstret = with_high v.minstret w }
+put_value v Mseccfg w = record v { mseccfg = stored_sec v.mseccfg (cfg_bytes v) w }
 put_value v _ w = v
 
 -- whether there is a register

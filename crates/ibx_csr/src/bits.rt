@@ -4,7 +4,7 @@ ghost use Rattle.ibx_csr.specs.Bits.{is_control_at as controls_at};
 
 use crate::name::{Csr, csr_at};
 use ibx_bits::INTERRUPT_LINES;
-use ibx_isa::control::{CY, IR, MIE, MPIE, MPP, MPRV, TW};
+use ibx_isa::control::{CY, IR, MIE, MML, MMWP, MPIE, MPP, MPRV, RLB, TW};
 
 /// A row of the table of bits: a write changes the bits of `kept`. The bits of `value` among these are the
 /// reset, and its other bits are what the register always reads there. `control` says whether the register
@@ -26,8 +26,8 @@ impl CsrBits {
 }
 
 impl Csr {
-    /// The register's row (Privileged ISA 1.12, 3.1 and 3.7; `cpuctrl`, `secureseed` and the choice of the
-    /// registers that control the core are our own).
+    /// The register's row (Privileged ISA 1.12, 3.1 and 3.7; `cpuctrl`, `secureseed`, `mseccfg` and the choice of
+    /// the registers that control the core are our own).
     pub fn bits(self) -> CsrBits
         ensures { result ≡ bits_of self }
     {
@@ -47,6 +47,7 @@ impl Csr {
             Csr::Mcycle | Csr::Mcycleh => row(0xffff_ffff, 0, false),
             Csr::Minstret | Csr::Minstreth => row(0xffff_ffff, 0, false),
             Csr::Marchid => row(0, 0x16, false),
+            Csr::Mseccfg => row(MML | MMWP | RLB, 0, true),
             Csr::Mip | Csr::Zero => row(0, 0, false),
         }
     }

@@ -1,14 +1,17 @@
 ghost use Rattle.std.specs.Prelude.{◌≡◌, ℕ, ◌+◌, ◌^◌, ◌<◌, ◌↔◌, None, is_some, slice_index, false};
 ghost use Rattle.ibx_csr.specs.Bits.{at_reset as reset_value};
-ghost use Rattle.ibx_csr.specs.Kept.{is_addr_locked};
+ghost use Rattle.ibx_csr.specs.Kept.{is_addr_held};
 ghost use Rattle.ibx_csr.specs.Values.{CsrValues, csr_reset, value_of, csr_read, csr_can_write, csr_write, OthersStay};
 ghost use Rattle.ibx_csr.specs.Values.{csr_tick, counters_after, counted as count_after, cfg_bytes, trap_regs};
+ghost use Rattle.ibx_csr.specs.Values.{sec_of};
 ghost use Rattle.ibx_csr.specs.Values.{kept_regs, with_trap_regs};
 ghost use Rattle.ibx_csr.specs.Fields.{values, Complemented, reset_of, put_of, write_of, tick_of, passed, with_regs};
 ghost use Rattle.ibx_csr.specs.Fields.{glitch_of};
 ghost use Rattle.ibx_csr.specs.Modes.{access_machine, may_wait};
 
-use crate::kept::{stored_cfg, stored_mstatus, with_high, with_low};
+use crate::kept::{
+    is_held, is_held_top, stored_cfg, stored_mstatus, stored_sec, with_high, with_low,
+};
 use crate::name::{Csr, csr_at};
 use ibx_bits::byte_at;
 use ibx_isa::TrapRegs;
@@ -77,13 +80,17 @@ pub struct Csrs {
     pub pmpaddr13_n: u32,
     pub pmpaddr14_n: u32,
     pub pmpaddr15_n: u32,
+    pub mseccfg: u32,
+    pub mseccfg_n: u32,
 }
 
 /// The entries of the protection unit: entry i has the configuration byte `cfg[i]` and the address `addr[i]`.
+/// `sec` is MML in bit 0, MMWP in bit 1 and RLB in bit 2.
 #[derive(Clone, Copy, Debug, PartialEq, Eq)]
 pub struct PmpView {
     pub cfg: [u8; 16],
     pub addr: [u32; 16],
+    pub sec: u8,
 }
 
 impl Csrs {
@@ -100,6 +107,7 @@ impl Csrs {
         let cpuctrl = at_reset(Csr::Cpuctrl);
         let cfg = at_reset(Csr::Pmpcfg(0));
         let addr = at_reset(Csr::Pmpaddr(0));
+        let mseccfg = at_reset(Csr::Mseccfg);
         Csrs {
             priv_: true,
             mstatus,
@@ -156,6 +164,8 @@ impl Csrs {
             pmpaddr13_n: !addr,
             pmpaddr14_n: !addr,
             pmpaddr15_n: !addr,
+            mseccfg,
+            mseccfg_n: !mseccfg,
         }
     }
 
@@ -200,6 +210,7 @@ impl Csrs {
             Csr::Mcycleh => (self.mcycle >> 32) as u32,
             Csr::Minstret => (self.minstret & 0xffff_ffff) as u32,
             Csr::Minstreth => (self.minstret >> 32) as u32,
+            Csr::Mseccfg => self.mseccfg,
             Csr::Misa | Csr::Secureseed | Csr::Marchid | Csr::Zero => at_reset(register),
         }
     }
@@ -268,11 +279,11 @@ impl Csrs {
             Csr::Mcause => self.mcause = legal,
             Csr::Mtval => self.mtval = legal,
             Csr::Pmpcfg(index) => {
-                let stored = stored_cfg(self.cfg(index), value);
+                let stored = stored_cfg(self.mseccfg, self.cfg(index), value);
                 self.put_cfg(index, stored);
             }
             Csr::Pmpaddr(index) => {
-                if !self.is_addr_locked(index) {
+                if !self.is_addr_held(index) {
                     self.put_addr(index, value);
                 }
             }
@@ -284,18 +295,24 @@ impl Csrs {
             Csr::Mcycleh => self.mcycle = with_high(self.mcycle, value),
             Csr::Minstret => self.minstret = with_low(self.minstret, value),
             Csr::Minstreth => self.minstret = with_high(self.minstret, value),
+            Csr::Mseccfg => {
+                let stored = stored_sec(self.mseccfg, &self.pmp().cfg, value);
+                self.mseccfg = stored;
+                self.mseccfg_n = !stored;
+            }
             Csr::Misa | Csr::Mip | Csr::Secureseed | Csr::Marchid | Csr::Zero => {}
         }
     }
 
-    // An address is locked by its own entry, or by the one above it where that is a range that begins at it.
-    fn is_addr_locked(&self, index: u8) -> bool
-        ensures { result ≡ is_addr_locked (cfg_bytes (values self.now)) index }
+    // An address is held by its own entry, or by the one above it where that is a range that begins at it.
+    #[tactic(auto, unfolding(crate::specs::Fields::values))]
+    fn is_addr_held(&self, index: u8) -> bool
+        ensures { result ≡ is_addr_held self.now.mseccfg (cfg_bytes (values self.now)) index }
     {
         let view = self.pmp();
         let own = entry_at(&view.cfg, index as usize);
         let next = entry_at(&view.cfg, index as usize + 1);
-        own & 0x80 != 0 || next & 0x98 == 0x88
+        is_held(self.mseccfg, own) || is_held_top(self.mseccfg, next)
     }
 
     /// Moves the two counters by one cycle: `retired` says whether an instruction retires in it, and `wrote`
@@ -407,6 +424,7 @@ impl Csrs {
     pub fn pmp(&self) -> PmpView
         ensures cfg { result.cfg ≡ cfg_bytes (values self.now) }
         ensures addr { result.addr ≡ (values self.now).pmpaddr }
+        ensures sec { result.sec ≡ sec_of (values self.now) }
     {
         PmpView {
             cfg: [
@@ -445,6 +463,7 @@ impl Csrs {
                 self.pmpaddr14,
                 self.pmpaddr15,
             ],
+            sec: (self.mseccfg & 7) as u8,
         }
     }
 }

@@ -26,6 +26,7 @@ impl Csrs {
         difference(self.mstatus, self.mstatus_n)
             | difference(self.mtvec, self.mtvec_n)
             | difference(self.cpuctrl, self.cpuctrl_n)
+            | difference(self.mseccfg, self.mseccfg_n)
     }
 
     #[inline(always)]

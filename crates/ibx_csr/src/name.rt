@@ -30,6 +30,8 @@ pub enum Csr {
     Minstreth,
     /// Reads 16 (hexadecimal).
     Marchid,
+    /// How the protection unit reads its entries: MML, MMWP and RLB (our own profile after Smepmp 1.0).
+    Mseccfg,
     /// One of the registers that read 0 and keep nothing.
     Zero,
 }
@@ -57,6 +59,8 @@ pub fn csr_at(addr: u16) -> Option<Csr>
         0x344 => Some(Csr::Mip),
         0x3a0..=0x3a3 => Some(Csr::Pmpcfg((addr - 0x3a0) as u8)),
         0x3b0..=0x3bf => Some(Csr::Pmpaddr((addr - 0x3b0) as u8)),
+        0x747 => Some(Csr::Mseccfg),
+        0x757 => Some(Csr::Zero),
         0x7c0 => Some(Csr::Cpuctrl),
         0x7c1 => Some(Csr::Secureseed),
         0xb00 => Some(Csr::Mcycle),

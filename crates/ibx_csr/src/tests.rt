@@ -27,6 +27,8 @@ fn each_register_keeps_its_bits(rt: HostRuntime) {
         ("pmpcfg3", 0x3a3, 0, 0x9f9f_9f9f, 0x9f9f_9f9f),
         ("pmpaddr0", 0x3b0, 0, ONES, 0),
         ("pmpaddr15", 0x3bf, 0, ONES, 0),
+        ("mseccfg", 0x747, 0, 7, 3),
+        ("mseccfgh", 0x757, 0, 0, 0),
         ("cpuctrl", 0x7c0, 0, 0xff, 0),
         ("secureseed", 0x7c1, 0, 0, 0),
         ("mcycle", 0xb00, 0, ONES, 0),
@@ -72,8 +74,9 @@ fn other_addresses_refuse_a_write(rt: HostRuntime) {
         ("the address before pmpcfg0", 0x39f, None),
         ("the address after pmpcfg3", 0x3a4, None),
         ("the address after pmpaddr15", 0x3c0, None),
-        ("mseccfg", 0x747, None),
-        ("mseccfgh", 0x757, None),
+        ("the address before mseccfg", 0x746, None),
+        ("the address after mseccfg", 0x748, None),
+        ("the address after mseccfgh", 0x758, None),
         ("the address after secureseed", 0x7c2, None),
         ("the address after mcycle", 0xb01, None),
         ("the address after mhpmcounter31", 0xb20, None),
@@ -200,6 +203,139 @@ fn writes_obey_locks_and_legal_values(rt: HostRuntime) {
     }
 }
 
+// A byte with the bits L R W X of each row from 0000 on, as it is stored over 18: with MML 0, and with MML 1 and RLB 0.
+// With MML 1 and RLB 1 each is stored as it is written.
+#[test]
+fn bytes_are_stored_by_the_profile(rt: HostRuntime) {
+    let table = [
+        (0x00, 0x00, 0x00),
+        (0x04, 0x04, 0x04),
+        (0x02, 0x00, 0x02),
+        (0x06, 0x04, 0x06),
+        (0x01, 0x01, 0x01),
+        (0x05, 0x05, 0x05),
+        (0x03, 0x03, 0x03),
+        (0x07, 0x07, 0x07),
+        (0x80, 0x80, 0x80),
+        (0x84, 0x84, 0x18),
+        (0x82, 0x80, 0x18),
+        (0x86, 0x84, 0x18),
+        (0x81, 0x81, 0x81),
+        (0x85, 0x85, 0x18),
+        (0x83, 0x83, 0x83),
+        (0x87, 0x87, 0x87),
+    ];
+    for (byte, without, with) in table {
+        for (sec, want) in [(0, without), (4, without), (1, with), (5, byte)] {
+            let mut csrs = Csrs::reset(0x0010_0080);
+            assert!(rt; csrs.write(0x3a0, 0x18));
+            assert!(rt; csrs.write(0x747, sec));
+            assert!(rt; csrs.write(0x3a0, byte));
+            assert_eq!(rt; csrs.read(0x3a0, 0), Some(want), "of {byte} with {sec}");
+        }
+    }
+}
+
+// After three writes, what a read of the last address gives.
+#[test]
+fn the_profile_sticks_and_holds(rt: HostRuntime) {
+    let table = [
+        ("MML sticks", [(0x747, 1), (0x747, 6), (0x747, 0)], 0x747, 3),
+        (
+            "MMWP sticks",
+            [(0x747, 2), (0x747, 0), (0x747, 0)],
+            0x747,
+            2,
+        ),
+        (
+            "the other bits read 0",
+            [(0x747, ONES << 3), (0x757, ONES), (0x757, 0)],
+            0x747,
+            0,
+        ),
+        (
+            "RLB is cleared",
+            [(0x747, 4), (0x747, 0), (0x747, 0)],
+            0x747,
+            0,
+        ),
+        (
+            "RLB stays 0 beside a locked entry",
+            [(0x3a3, 0x8000_0000), (0x747, 4), (0x747, 4)],
+            0x747,
+            0,
+        ),
+        (
+            "MML beside it",
+            [(0x3a3, 0x8000_0000), (0x747, 5), (0x747, 4)],
+            0x747,
+            1,
+        ),
+        (
+            "RLB stays 1 beside a locked entry",
+            [(0x747, 4), (0x3a0, 0x80), (0x747, 4)],
+            0x747,
+            4,
+        ),
+        (
+            "RLB is cleared there",
+            [(0x747, 4), (0x3a0, 0x80), (0x747, 0)],
+            0x747,
+            0,
+        ),
+        (
+            "RLB frees a locked byte",
+            [(0x747, 4), (0x3a0, 0x80), (0x3a0, 1)],
+            0x3a0,
+            1,
+        ),
+        (
+            "RLB frees its address",
+            [(0x747, 4), (0x3a0, 0x80), (0x3b0, 0x12)],
+            0x3b0,
+            0x12,
+        ),
+        (
+            "RLB frees the address before",
+            [(0x747, 4), (0x3a0, 0x8800), (0x3b0, 0x12)],
+            0x3b0,
+            0x12,
+        ),
+        (
+            "a held byte under MML",
+            [(0x3a0, 0x81), (0x747, 1), (0x3a0, 0)],
+            0x3a0,
+            0x81,
+        ),
+        (
+            "a held address under MML",
+            [(0x3a0, 0x8800), (0x747, 1), (0x3b0, 0x12)],
+            0x3b0,
+            0,
+        ),
+        (
+            "bytes beside a refused one",
+            [(0x747, 1), (0x3a0, 0), (0x3a0, 0x8184_0602)],
+            0x3a0,
+            0x8100_0602,
+        ),
+        (
+            "A isn't looked at",
+            [(0x747, 1), (0x3a0, 0x1f), (0x3a0, 0x9c)],
+            0x3a0,
+            0x1f,
+        ),
+    ];
+    for (name, writes, addr, want) in table {
+        let mut csrs = Csrs::reset(0x0010_0080);
+        for (to, value) in writes {
+            assert!(rt; csrs.write(to, value), "at {name}");
+        }
+        assert_eq!(rt; csrs.read(addr, 0), Some(want), "at {name}");
+        assert!(rt; !csrs.glitch(), "at {name}");
+    }
+}
+
 // mcycle and minstret after one cycle that begins with the first pair: whether an instruction retires in
 // it, the value of mcountinhibit, and the address that is written, if any.
 #[test]
@@ -285,6 +421,10 @@ fn traps_and_protection_see_the_registers(rt: HostRuntime) {
     csrs.set_regs(&ones);
     assert_eq!(rt; csrs.regs(), kept);
     assert!(rt; !csrs.glitch());
+    csrs.mseccfg = 0xffff_fffa;
+    assert!(rt; csrs.glitch());
+    csrs.mseccfg_n = 5;
+    assert!(rt; !csrs.glitch());
     csrs.pmpcfg1 = 0x1f18_0f9f;
     csrs.pmpaddr15 = 0x55;
     let view = csrs.pmp();
@@ -296,5 +436,6 @@ fn traps_and_protection_see_the_registers(rt: HostRuntime) {
         view.addr,
         [0, 0, 0, 0, 0, 0, 0, 0, 0, 0, 0, 0, 0, 0, 0, 0x55]
     );
+    assert_eq!(rt; view.sec, 2);
     assert!(rt; csrs.glitch());
 }

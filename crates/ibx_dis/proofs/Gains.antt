@@ -46,13 +46,6 @@ more {before} {now} {after} {whole} piece rest so_far wrote = record {
   text = append_assoc so_far.gained piece rest ∙ so_far.text;
 }
 
--- the last piece
-pub last : {before now after : Option (List ℕ)} {piece whole : List ℕ} → SoFar before now piece whole → after ≡
-    with_more now piece → after ≡ with_more before whole
-last {before} {now} {after} {piece} {whole} so_far wrote =
-    wrote ∙ ap (λ (t : Option (List ℕ)). with_more t piece) so_far.taken ∙ more_twice before so_far.gained piece
-    ∙ ap (with_more before) so_far.text
-
 -- nothing is left to write
 pub done : {before now : Option (List ℕ)} {whole : List ℕ} → SoFar before now [] whole → now ≡ with_more before whole
 done {before} {now} {whole} so_far = so_far.taken ∙ ap (with_more before) (sym (append-nil so_far.gained)

@@ -1,5 +1,5 @@
 -- The lines of some code stand for it.
-use Rattle.std.proofs.Common.{◌≡◌, ℕ, zero, suc, ◌+◌, ◌-◌, ◌*◌, ◌%◌, ◌^◌, ◌<◌, true, false, nat_lt, nat_le}
+use Rattle.std.proofs.Common.{◌≡◌, ℕ, zero, suc, ◌-◌, ◌%◌, ◌^◌, ◌<◌, true, false, nat_lt, nat_le}
 use Rattle.std.proofs.Common.{List, [], ◌∷◌, ◌++◌, length, take, drop, codes, refl, sym, ◌∙◌, ap, subst, inl, inr}
 use Rattle.std.proofs.Common.{append_assoc, append-nil, arith, lit<}
 use Rattle.std.specs.Int.{to_le_bytes, w16, w32}
@@ -41,14 +41,6 @@ four_bytes a b c d code h (suc zero) = h 1
 four_bytes a b c d code h (suc (suc zero)) = h 2
 four_bytes a b c d code h (suc (suc (suc zero))) = h 3
 four_bytes a b c d code h (suc (suc (suc (suc i)))) = lit< tt
-
--- the first halfword and word as numbers
-half_is : (a b : ℕ) (code : List ℕ) → first_half (a ∷ b ∷ code) ≡ a + b * 256
-half_is a b code = refl
-
--- the first word is its four bytes, the lowest first
-word_is : (a b c d : ℕ) (code : List ℕ) → first_word (a ∷ b ∷ c ∷ d ∷ code) ≡ a + b * 256 + c * 65536 + d * 16777216
-word_is a b c d code = refl
 
 -- a halfword is small
 half_small : (a b : ℕ) (code : List ℕ) → AreBytes (a ∷ b ∷ code) → first_half (a ∷ b ∷ code) < 2 ^ 16

@@ -1,10 +1,9 @@
 -- The lines of some code, one at a time.
 use Rattle.std.proofs.Common.{◌≡◌, ℕ, zero, suc, ◌+◌, ◌-◌, ◌<◌, Bool, true, false, cond, List, [], ◌∷◌, ◌++◌, length}
 use Rattle.std.proofs.Common.{drop}
-use Rattle.std.proofs.Common.{codes, Some, refl, ◌≤◌, add-one, sym, ◌∙◌, ap, arith, lit<}
+use Rattle.std.proofs.Common.{codes, Some, refl, add-one, sym, ◌∙◌, ap, arith, lit<}
 use Rattle.std.specs.Prelude.{flat_map}
 use Rattle.std.specs.List.{slice_get}
-use Rattle.std.proofs.Math.ListN.{drop_of_length-le}
 use Rattle.ibx_elf.specs.Image.{LoadedBytes, Placed}
 use Rattle.ibx_dis.specs.Listing.{first_size, first_text, lines_after, lines_of, segment_text, listing_of}
 
@@ -66,8 +65,3 @@ one_segment segments i segment h = rw (add-one i, next segments i segment h) ref
 pub all_segments : (image : Placed) → flat_map segment_text (drop 0 image.segments) ≡ listing_of image
 unfolding listing_of
 all_segments image = refl
-
--- at the end nothing is left
-pub no_segment : (segments : List LoadedBytes) (i : ℕ) → length segments ≤ i → flat_map segment_text (drop i segments)
-    ≡ []
-no_segment segments i h = rw (drop_of_length-le segments {i = i} h) refl

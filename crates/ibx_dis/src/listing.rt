@@ -8,8 +8,8 @@ ghost use Rattle.ibx_dis.specs.Listing.{first_size, first_text, lines_of, segmen
 use arrayvec::ArrayString;
 use ibx_asm::dis;
 use ibx_base::{Failed, Sink, write_all};
-use ibx_text::Digits;
 use ibx_elf::Image;
+use ibx_text::Digits;
 
 // Writes a text of at most 40 bytes and a line feed.
 fn print_line<K: Sink>(text: &str, out: &mut K) -> Result<(), Failed>

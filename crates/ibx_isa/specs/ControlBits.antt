@@ -54,3 +54,16 @@ sync_exc_seen = 0x40
 -- bit 7: set by an exception that comes while bit 6 is set; MRET leaves it
 abbrev pub double_fault_seen : ℕ
 double_fault_seen = 0x80
+
+-- mseccfg (our own profile after Smepmp 1.0): MML, entries say what each mode may do by the table of sixteen rows;
+-- MMWP, M mode needs an entry that allows; RLB, locked entries can be written
+abbrev pub mml_bit : ℕ
+mml_bit = 0x1
+
+-- MMWP, bit 1: where no entry matches M mode is refused too
+abbrev pub mmwp_bit : ℕ
+mmwp_bit = 0x2
+
+-- RLB, bit 2: the lock of an entry is not looked at
+abbrev pub rlb_bit : ℕ
+rlb_bit = 0x4

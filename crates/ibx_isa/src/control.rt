@@ -38,3 +38,12 @@ pub const SYNC_EXC_SEEN: u32 = 0x40;
 
 /// cpuctrl: another exception was taken in the handler of the first.
 pub const DOUBLE_FAULT_SEEN: u32 = 0x80;
+
+/// mseccfg (our own profile after Smepmp 1.0): entries say what each mode may do by the table of sixteen rows.
+pub const MML: u32 = 0x1;
+
+/// mseccfg: where no entry matches M mode is refused too.
+pub const MMWP: u32 = 0x2;
+
+/// mseccfg: the lock of an entry isn't looked at.
+pub const RLB: u32 = 0x4;

@@ -24,7 +24,7 @@ pub enum Event {
         value: u32,
         mem: Option<Access>,
         /// The value handed to the write of a CSR that controls the core: `mstatus`, `mie`, `cpuctrl`,
-        /// `secureseed`, `pmpcfg0` to `pmpcfg3` and `pmpaddr0` to `pmpaddr15`.
+        /// `secureseed`, `mseccfg`, `pmpcfg0` to `pmpcfg3` and `pmpaddr0` to `pmpaddr15`.
         ctl: Option<u32>,
         /// The values of rs1 and rs2, 0 for one that isn't read, where fixed timing was off.
         ops: Option<(u32, u32)>,

@@ -7,7 +7,7 @@ use Rattle.std.specs.List.{list_any}
 use Rattle.std.proofs.lemmas.List.{append-nil}
 use Rattle.std.proofs.lemmas.Bool.{le-leb, lt-leb, not-false, or_parts, or_from}
 use Rattle.ibx_lockstep.specs.Lockstep.{Lockstep, after_turn, differences, findings, inputs, IsSilent, KeepsMain}
-use Rattle.ibx_lockstep.specs.Lockstep.{Notices, outputs, outputs_alone, SameFirst, stepped_after, StaysQuiet}
+use Rattle.ibx_lockstep.specs.Lockstep.{outputs, outputs_alone, SameFirst, stepped_after}
 use Rattle.ibx_lockstep.specs.Lockstep.{TellsLater, unchanged}
 
 -- a list of inputs, and of outputs, with one more at its end
@@ -202,30 +202,6 @@ module _ {S I O : Type 0} (d : ℕ) (gives : S → I → O) (leaves : S → I �
   outputs-unchanged p [] = refl
   outputs-unchanged p (i ∷ is) =
       ap (λ os. gives p.main i ∷ os) (outputs-unchanged (after_turn d gives leaves p (None, i)) is)
-
-  -- so a difference is told d cycles later, a run without one is quiet, and the pair drives main's outputs
-  pub notices : (agree : O → O → Bool) (p : Lockstep S I O) → TellsLater d gives leaves agree p
-      → Notices d gives leaves agree p
-  notices agree p tells ts silent =
-      let xs = outputs_alone gives leaves p.main (inputs ts) in
-      let ys = outputs d gives leaves p ts in
-      same_first agree (length ts - d) xs ys (omega (arith, length-alone p.main ts))
-      (omega (arith, length-outputs p ts))
-      (skipped d (length ts) (differences agree xs ys) (subst IsSilent (tells ts) silent))
-
-  -- a run in which nothing is changed tells no difference, where each output agrees with itself
-  pub stays_quiet : (agree : O → O → Bool) (p : Lockstep S I O) → TellsLater d gives leaves agree p
-      → StaysQuiet d gives leaves agree p
-  stays_quiet agree p tells self is =
-      let ts : List (Option S × I) = unchanged is in
-      let alone = outputs_alone gives leaves p.main in
-      let same : outputs d gives leaves p ts ≡ alone (inputs ts) =
-      outputs-unchanged p is ∙ ap alone (sym (inputs-unchanged S is)) in
-      subst IsSilent (sym (tells ts))
-      (subst (λ (ys : List O). IsSilent
-      (take (length ts) (replicate d false ++ differences agree (alone (inputs ts)) ys))) (sym same)
-      (padded d (length ts) (differences agree (alone (inputs ts)) (alone (inputs ts)))
-      (never_differs agree self (alone (inputs ts)))))
 
   -- whatever happens to the shadow, the delayed pairs and the age, main's outputs are those of main alone
   pub keeps_main : (p : Lockstep S I O) → KeepsMain d gives leaves p

@@ -1,7 +1,7 @@
 -- What a pair answers is what it finds, one cycle later.
-use Rattle.std.proofs.Common.{◌≡◌, ℕ, zero, suc, ◌+◌, ◌-◌, ◌≤◌, Bool, true, false, List, [], ◌∷◌, ◌++◌, length, take}
+use Rattle.std.proofs.Common.{◌≡◌, ℕ, zero, suc, ◌+◌, ◌-◌, Bool, false, List, [], ◌∷◌, ◌++◌, length, take}
 use Rattle.std.proofs.Common.{replicate, Option, Some, None, refl, ap, subst, sym, ◌∙◌, arith}
-use Rattle.ibx_lockstep.specs.Lockstep.{after_turn, differences, findings, inputs, IsSilent, outputs_alone, TellsLater}
+use Rattle.ibx_lockstep.specs.Lockstep.{differences, findings, inputs, IsSilent, outputs_alone, TellsLater}
 use Rattle.ibx_lockstep.specs.Lockstep.{unchanged}
 use Rattle.ibx_lockstep.specs.Paired.{Paired, finds, lockstep_of, stepped}
 use Rattle.ibx_lockstep.specs.Told.{answers, AnswersEach, AnswersLater, AnswersNone, main_outputs, turned}

@@ -1,7 +1,7 @@
 -- Two cores of which the shadow is d cycles behind main, for every core and every d from 1 on, and what its comparator
 -- notices.
 -- Our own rule, as in the lockstep of dual cores with a delayed checker.
-use Rattle.std.specs.Prelude.{◌≡◌, ℕ, zero, suc, ◌+◌, ◌-◌, min, Bool, true, false, not, ◌&&◌, nat_le, if◌then◌else◌}
+use Rattle.std.specs.Prelude.{◌≡◌, ℕ, zero, suc, ◌+◌, min, Bool, true, false, not, ◌&&◌, nat_le, if◌then◌else◌}
 use Rattle.std.specs.Prelude.{List, [], ◌∷◌, ◌++◌, length, map, take, drop, replicate, Option, Some, None}
 use Rattle.std.specs.List.{list_any, zip}
 
@@ -99,17 +99,6 @@ module _ {S I O : Type 0} (d : ℕ) (gives : S → I → O) (leaves : S → I �
       (turns : List (Option S × I))
       → findings agree p turns ≡ take (length turns)
       (replicate d false ++ differences agree (outputs_alone gives leaves p.main (inputs turns)) (outputs p turns))
-
-  -- Whatever is put in main's place, and when: where no difference is told up to d cycles after a cycle, main's
-  -- outputs up to it are the same as those of a core that started equal, was never replaced, and had the same inputs.
-  abbrev pub Notices : (O → O → Bool) → Lockstep S I O → Type 0
-  Notices agree p =
-      (turns : List (Option S × I)) → IsSilent (findings agree p turns)
-      → SameFirst agree (length turns - d) (outputs_alone gives leaves p.main (inputs turns)) (outputs p turns)
-
-  -- Where nothing is changed, and each output is the same as itself, no difference is ever told.
-  abbrev pub StaysQuiet : (O → O → Bool) → Lockstep S I O → Type 0
-  StaysQuiet agree p = ((o : O) → agree o o ≡ true) → (is : List I) → IsSilent (findings agree p (unchanged is))
 
   -- main's outputs, where the shadow, the delayed pairs and the age may be changed before each cycle
   abbrev pub outputs_disturbed : Lockstep S I O → List (Option (S × List (I × O) × ℕ) × I) → List O

@@ -1,6 +1,6 @@
 -- What a pair answers, cycle by cycle: what the cycle before found. So a difference is told the delay plus one cycles
 -- later, and no other. Our own rule, as in the lockstep of dual cores with a registered alert.
-use Rattle.std.specs.Prelude.{◌≡◌, ℕ, ◌+◌, ◌-◌, Bool, true, false, List, [], ◌∷◌, ◌++◌, length, take, replicate, Option}
+use Rattle.std.specs.Prelude.{◌≡◌, ◌+◌, ◌-◌, Bool, true, false, List, [], ◌∷◌, ◌++◌, length, take, replicate, Option}
 use Rattle.std.specs.Prelude.{Some, None}
 use Rattle.ibx_lockstep.specs.Lockstep.{differences, inputs, IsSilent, outputs, outputs_alone, SameFirst, unchanged}
 use Rattle.ibx_lockstep.specs.Paired.{Paired, lockstep_of, stepped}

@@ -29,7 +29,7 @@ fields =
     (codes "pmpaddr5_n", 32) ∷ (codes "pmpaddr6_n", 32) ∷ (codes "pmpaddr7_n", 32) ∷ (codes "pmpaddr8_n", 32) ∷
     (codes "pmpaddr9_n", 32) ∷ (codes "pmpaddr10_n", 32) ∷ (codes "pmpaddr11_n", 32) ∷
     (codes "pmpaddr12_n", 32) ∷ (codes "pmpaddr13_n", 32) ∷ (codes "pmpaddr14_n", 32) ∷
-    (codes "pmpaddr15_n", 32) ∷ []
+    (codes "pmpaddr15_n", 32) ∷ (codes "mseccfg", 32) ∷ (codes "mseccfg_n", 32) ∷ []
 
 -- the inputs of the core, its outputs, the age of the delayed pairs, and whether the cycle before found a difference
 unfoldable pub wires : List (List ℕ × ℕ)

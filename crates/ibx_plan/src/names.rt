@@ -4,13 +4,13 @@ ghost use Rattle.std.specs.Str.{bytes_eq};
 ghost use Rattle.ibx_plan.specs.Names.{fields, wires, outputs, number_named, width_in};
 
 /// How many fields the core has.
-pub const FIELDS: u8 = 87;
+pub const FIELDS: u8 = 89;
 
 // The name of a part of the machine, and its width in bits.
 type Part = (&'static str, u8);
 
 // The fields of the core, by number.
-static FIELD_TABLE: [Part; 87] = [
+static FIELD_TABLE: [Part; 89] = [
     ("f_busy", 1),
     ("f_fresh", 1),
     ("f_drop", 1),
@@ -98,6 +98,8 @@ static FIELD_TABLE: [Part; 87] = [
     ("pmpaddr13_n", 32),
     ("pmpaddr14_n", 32),
     ("pmpaddr15_n", 32),
+    ("mseccfg", 32),
+    ("mseccfg_n", 32),
 ];
 
 // The core's inputs, its outputs, the age of the delayed pairs, and whether the cycle before found a difference, by

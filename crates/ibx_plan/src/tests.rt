@@ -423,7 +423,7 @@ fn lines_of_a_full_list(rt: HostRuntime) -> Result<(), Fail> {
     Ok(())
 }
 
-static FIELD_ROWS: [(&str, u8, u8); 14] = [
+static FIELD_ROWS: [(&str, u8, u8); 16] = [
     ("f_busy", 0, 1),
     ("buf0", 4, 33),
     ("c_walk", 15, 9),
@@ -438,6 +438,8 @@ static FIELD_ROWS: [(&str, u8, u8); 14] = [
     ("mstatus_n", 64, 32),
     ("pmpcfg0_n", 67, 32),
     ("pmpaddr15_n", 86, 32),
+    ("mseccfg", 87, 32),
+    ("mseccfg_n", 88, 32),
 ];
 
 fn field_rows() -> &'static [(&'static str, u8, u8)] {

@@ -10,6 +10,7 @@ use Rattle.std.proofs.lemmas.Bool.{cases_eq, lt-ltb, le-ltb, le-leb, ltb-true, l
 use Rattle.std.proofs.lemmas.Bool.{and_from, and_parts, cases_Bool}
 use Rattle.ibx_pmp.specs.declared.protection.AccessKind.{AccessKind}
 use Rattle.ibx_pmp.specs.Ranges.{Bytes, Entry, covers, entries_after, meets, has_all, allows, by_entry, has_word}
+use Rattle.ibx_pmp.specs.Ranges.{without_entry}
 
 -- two tests that imply each other have one value
 same_test : (a b : Bool) → (a ≡ true → b ≡ true) → (b ≡ true → a ≡ true) → a ≡ b
@@ -131,22 +132,22 @@ covers-contains cfg below a x n some one h =
     ap (λ (b : Bytes). has_all b x n) e.bytes ∙ block-contains e.first e.last x n some one (sym (e.word (x / 4)) ∙ h)
 
 -- what the entries say after one with the address `lower`
-unfoldable pub decided : ℕ → List ℕ → List ℕ → ℕ → ℕ → AccessKind → Bool → Bool
-decided lower cs as' x n kind machine =
-    by_entry (find (λ e. meets e.bytes x n) (entries_after lower cs as')) x n kind machine
+unfoldable pub decided : ℕ → ℕ → List ℕ → List ℕ → ℕ → ℕ → AccessKind → Bool → Bool
+decided sec lower cs as' x n kind machine =
+    by_entry sec (find (λ e. meets e.bytes x n) (entries_after lower cs as')) x n kind machine
 
 -- the entries from the i-th on
-pub decided-from : (lower i : ℕ) (cs as' : List ℕ) (x n : ℕ) (kind : AccessKind) (machine : Bool) → 1 ≤ n
-    → x % 4 + n ≤ 4 → i < length cs → i < length as' → decided lower (drop i cs) (drop i as') x n kind machine
-    ≡ cond (has_word (get_or cs i 0) lower (get_or as' i 0) (x / 4)) (allows (get_or cs i 0) kind machine)
-    (decided (get_or as' i 0) (drop (i + 1) cs) (drop (i + 1) as') x n kind machine)
+pub decided-from : (sec lower i : ℕ) (cs as' : List ℕ) (x n : ℕ) (kind : AccessKind) (machine : Bool) → 1 ≤ n
+    → x % 4 + n ≤ 4 → i < length cs → i < length as' → decided sec lower (drop i cs) (drop i as') x n kind machine
+    ≡ cond (has_word (get_or cs i 0) lower (get_or as' i 0) (x / 4)) (allows sec (get_or cs i 0) kind machine)
+    (decided sec (get_or as' i 0) (drop (i + 1) cs) (drop (i + 1) as') x n kind machine)
 unfolding decided
-decided-from lower i cs as' x n kind machine some one lc la =
+decided-from sec lower i cs as' x n kind machine some one lc la =
     let c = get_or cs i 0 in
     let a = get_or as' i 0 in
     let rest = find (λ (e : Entry). meets e.bytes x n) (entries_after a (drop (i + 1) cs) (drop (i + 1) as')) in
-    let step : decided lower (drop i cs) (drop i as') x n kind machine
-    ≡ by_entry (cond (meets (covers c lower a) x n) (Some (record { cfg = c; bytes = covers c lower a })) rest) x n
+    let step : decided sec lower (drop i cs) (drop i as') x n kind machine
+    ≡ by_entry sec (cond (meets (covers c lower a) x n) (Some (record { cfg = c; bytes = covers c lower a })) rest) x n
     kind machine =
     rw (drop-cons cs i 0 lc, drop-cons as' i 0 la, add-one i) refl in
     step ∙ rw (covers-meets c lower a x n some one)
@@ -155,20 +156,20 @@ decided-from lower i cs as' x n kind machine some one lc la =
       | inr h ↦ rw h refl
     ])
 
--- after the last entry machine mode alone has access
-pub decided-none : (lower i : ℕ) (cs as' : List ℕ) (x n : ℕ) (kind : AccessKind) (machine : Bool) → length cs ≤ i
-    → decided lower (drop i cs) (drop i as') x n kind machine ≡ machine
+-- after the last entry the rule without one decides
+pub decided-none : (sec lower i : ℕ) (cs as' : List ℕ) (x n : ℕ) (kind : AccessKind) (machine : Bool) → length cs ≤ i
+    → decided sec lower (drop i cs) (drop i as') x n kind machine ≡ without_entry sec kind machine
 unfolding decided
-decided-none lower i cs as' x n kind machine le =
+decided-none sec lower i cs as' x n kind machine le =
     let gone : drop i cs ≡ [] = drop_all i cs le in
     rw gone refl
 
 -- no bytes meet no entry
-pub decided-nothing : (lower : ℕ) (cs as' : List ℕ) (x : ℕ) (kind : AccessKind) (machine : Bool)
-    → decided lower cs as' x 0 kind machine ≡ machine
+pub decided-nothing : (sec lower : ℕ) (cs as' : List ℕ) (x : ℕ) (kind : AccessKind) (machine : Bool)
+    → decided sec lower cs as' x 0 kind machine ≡ without_entry sec kind machine
 unfolding decided
-decided-nothing lower [] as' x kind machine = refl
-decided-nothing lower (c ∷ cs) [] x kind machine = refl
-decided-nothing lower (c ∷ cs) (a ∷ rest) x kind machine =
+decided-nothing sec lower [] as' x kind machine = refl
+decided-nothing sec lower (c ∷ cs) [] x kind machine = refl
+decided-nothing sec lower (c ∷ cs) (a ∷ rest) x kind machine =
     let none : meets (covers c lower a) x 0 ≡ false = le-ltb _ _ (omega arith) in
-    rw none (decided-nothing a cs rest x kind machine)
+    rw none (decided-nothing sec a cs rest x kind machine)

@@ -9,6 +9,7 @@ fn entries(cfg: [u8; 3], addr: [u32; 3]) -> PmpRegs {
         addr: [
             addr[0], addr[1], addr[2], 0, 0, 0, 0, 0, 0, 0, 0, 0, 0, 0, 0, 0,
         ],
+        sec: 0,
     }
 }
 
@@ -160,5 +161,71 @@ fn rights_follow_the_first_match(rt: HostRuntime) {
     for (name, entries, addr, kind, machine, want) in table {
         assert_eq!(rt; addr % 4, 0, "at {name}");
         assert_eq!(rt; allow(&entries, addr, 4, kind, machine), want, "at {name}");
+    }
+}
+
+// What M may do and what U may, as reads, writes and executes, with these bits of mseccfg and one entry of four bytes.
+#[test]
+fn rights_follow_the_table_of_sixteen_rows(rt: HostRuntime) {
+    let table = [
+        ("0000", 1, 0x10, [false; 3], [false; 3]),
+        ("0001", 1, 0x14, [false; 3], [false, false, true]),
+        ("0010", 1, 0x12, [true, true, false], [true, false, false]),
+        ("0011", 1, 0x16, [true, true, false], [true, true, false]),
+        ("0100", 1, 0x11, [false; 3], [true, false, false]),
+        ("0101", 1, 0x15, [false; 3], [true, false, true]),
+        ("0110", 1, 0x13, [false; 3], [true, true, false]),
+        ("0111", 1, 0x17, [false; 3], [true; 3]),
+        ("1000", 1, 0x90, [false; 3], [false; 3]),
+        ("1001", 1, 0x94, [false, false, true], [false; 3]),
+        ("1010", 1, 0x92, [false, false, true], [false, false, true]),
+        ("1011", 1, 0x96, [true, false, true], [false, false, true]),
+        ("1100", 1, 0x91, [true, false, false], [false; 3]),
+        ("1101", 1, 0x95, [true, false, true], [false; 3]),
+        ("1110", 1, 0x93, [true, true, false], [false; 3]),
+        ("1111", 1, 0x97, [true, false, false], [true, false, false]),
+        ("no match, all 0", 0, 0, [true; 3], [false; 3]),
+        ("no match, MML", 1, 0, [true, true, false], [false; 3]),
+        ("no match, MMWP", 2, 0, [false; 3], [false; 3]),
+        ("no match, MML and MMWP", 3, 0, [false; 3], [false; 3]),
+        ("no match, RLB alone", 4, 0, [true; 3], [false; 3]),
+        ("no match, higher bits", 0xf8, 0, [true; 3], [false; 3]),
+        ("MMWP, an open entry", 2, 0x10, [true; 3], [false; 3]),
+    ];
+    for (name, sec, cfg, machine, user) in table {
+        let mut r = entries([cfg, 0, 0], [0x400, 0, 0]);
+        r.sec = sec;
+        for (kind, of_machine, of_user) in [
+            (AccessKind::Read, machine[0], user[0]),
+            (AccessKind::Write, machine[1], user[1]),
+            (AccessKind::Execute, machine[2], user[2]),
+        ] {
+            assert_eq!(rt;
+                allow(&r, 0x1000, 4, kind, true),
+                of_machine,
+                "at {name} from M"
+            );
+            assert_eq!(rt;
+                allow(&r, 0x1000, 4, kind, false),
+                of_user,
+                "at {name} from U"
+            );
+        }
+    }
+}
+
+// An access of no bytes meets no entry, even one that has its address.
+#[test]
+fn no_bytes_match_no_entry(rt: HostRuntime) {
+    let mut r = entries([0x97, 0, 0], [0x400, 0, 0]);
+    for (sec, kind, want) in [
+        (0, AccessKind::Execute, true),
+        (1, AccessKind::Write, true),
+        (1, AccessKind::Execute, false),
+        (2, AccessKind::Read, false),
+    ] {
+        r.sec = sec;
+        assert_eq!(rt; allow(&r, 0x1000, 0, kind, true), want, "with {sec}");
+        assert!(rt; !allow(&r, 0x1000, 0, kind, false), "with {sec} from U");
     }
 }

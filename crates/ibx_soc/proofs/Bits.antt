@@ -82,8 +82,8 @@ bit_inside (x ∷ xs) (suc n) k lt = omega (arith, bit_inside xs n k lt)
 pub wire_inside : (wire k : ℕ) → k < width_in wires wire → wire ≢ 36 → wire ≢ 37 → wire < 36
 wire_inside wire k lt age told = omega (arith, bit_inside wire_widths wire k (subst (λ n. k < n) (width_is wire) lt))
 
--- a bit of a field is of one of the 87 fields
-pub field_inside : (field k : ℕ) → k < width_in field_table field → field < 87
+-- a bit of a field is of one of the 89 fields
+pub field_inside : (field k : ℕ) → k < width_in field_table field → field < 89
 field_inside field k lt = bit_inside widths field k (subst (λ n. k < n) (field_width field) lt)
 
 -- the wires give the pair back

@@ -1,7 +1,7 @@
 -- What a site that fits says of its numbers.
-use Rattle.std.proofs.Common.{◌≡◌, ℕ, ◌<◌, true, [], ◌∷◌}
-use Rattle.ibx_plan.specs.Names.{fields, outputs, width_in, wires}
-use Rattle.ibx_plan.specs.Sites.{ranged, ranges, site_fits, slots}
+use Rattle.std.proofs.Common.{◌≡◌, ℕ, ◌<◌, true, []}
+use Rattle.ibx_plan.specs.Names.{fields, outputs, width_in}
+use Rattle.ibx_plan.specs.Sites.{ranged, ranges, site_fits}
 use Rattle.ibx_plan.specs.declared.site.Site.TheVariants as site
 use Rattle.ibx_system.proofs.Sites.{in_ranges, output_fits}
 use Rattle.ibx_soc.specs.Seen.{PendingFits}
@@ -17,21 +17,6 @@ pub shadow_bit : (n delay field bit : ℕ)
     → site_fits n delay (site.Shadow field bit) ≡ true → bit < width_in fields field
 unfolding site_fits ranges
 shadow_bit n delay field bit h = (in_ranges (ranged bit 0 (width_in fields field)) [] h).1
-
--- the slot of a delayed wire
-pub delay_slot : (n delay slot wire bit : ℕ)
-    → site_fits n delay (site.Delay slot wire bit) ≡ true → slot < slots delay wire
-unfolding site_fits ranges
-delay_slot n delay slot wire bit h =
-    (in_ranges (ranged slot 0 (slots delay wire)) (ranged bit 0 (width_in wires wire) ∷ []) h).1
-
--- the bit of a delayed wire
-pub delay_bit : (n delay slot wire bit : ℕ)
-    → site_fits n delay (site.Delay slot wire bit) ≡ true → bit < width_in wires wire
-unfolding site_fits ranges
-delay_bit n delay slot wire bit h =
-    (in_ranges (ranged bit 0 (width_in wires wire)) [] (in_ranges (ranged slot 0 (slots delay wire))
-    (ranged bit 0 (width_in wires wire) ∷ []) h).2).1
 
 -- the word and the bit of an output word
 pub pending_fits : (n delay wire bit : ℕ)

@@ -253,7 +253,7 @@ pub(crate) fn with_wire_flip(i: &In, o: &Out, wire: u8, bit: u8) -> (In, Out)
 /// Changes bit `bit` of a field of a core.
 #[tactic(auto, using(crate::proofs::Bits::field_flip_is, crate::proofs::Bits::field_small))]
 pub(crate) fn flip_field(core: &mut Core, field: u8, bit: u8)
-    requires field { field < 87 }
+    requires field { field < 89 }
     requires bit { bit < width_in field_table field }
     ensures { core.new ≡ field_flip field bit core.old }
 {

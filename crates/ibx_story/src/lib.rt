@@ -1,8 +1,6 @@
-//! Stories: the events of a run in order and how it ends, over an image and a budget.
+//! Where a story ends: the event that halts it, and the cycles that its events took.
 #![tactic(auto)]
 
-mod end;
 mod halting;
 
-pub use end::StoryEnd;
 pub use halting::halts;

@@ -14,7 +14,7 @@ pub fn cycle_laws()
 /// A flip changes one bit of one field, or of one of the 36 wires of a delayed pair, and leaves all other fields, all
 /// other wires, and the event.
 pub fn one_bit()
-    ensures field { (core : State) (field bit : ℕ) → field < 87 → bit < width_in field_table field
+    ensures field { (core : State) (field bit : ℕ) → field < 89 → bit < width_in field_table field
         → fields (field_flip field bit core) ≡ number_flip field bit (fields core) }
     ensures wire { (pair : InWires × OutWires) (wire bit : ℕ) → wire < 36 → bit < width_in wire_table wire
         → wire_numbers (wire_flip wire bit pair) ≡ number_flip wire bit (wire_numbers pair) }

@@ -29,12 +29,6 @@ two_ascii n h =
     IsAscii-cons (digit_glyph false (n / 10)) (last ∷ []) (glyph_ascii (n / 10) (omega arith))
     (IsAscii-cons last [] (glyph_ascii (n % 10) (omega arith)) IsAscii-nil)
 
--- there are as many hexadecimal digits as were asked for
-pub length_hex : (k n : ℕ) → length (hex_digits k n) ≡ k
-unfolding hex_digits
-length_hex zero n = refl
-length_hex (suc k) n = ap suc (length_hex k n)
-
 -- fewer digits are the last of more
 lowest : (j k n : ℕ) → drop j (hex_digits (j + k) n) ≡ hex_digits k n
 unfolding hex_digits

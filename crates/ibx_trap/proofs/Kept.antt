@@ -5,7 +5,7 @@ use Rattle.std.proofs.lemmas.Nat.{and_or_apart, and_assoc, or_lt, and_le_l}
 use Rattle.ibx_isa.specs.declared.trap.TrapRegs.{TrapRegs}
 use Rattle.ibx_isa.specs.ControlBits.{mie_bit, mpie_bit, mpp_bits, mprv_bit, tw_bit, sync_exc_seen, double_fault_seen}
 use Rattle.ibx_trap.specs.Bits.{set_if, cleared, has_some, has_all}
-use Rattle.ibx_trap.specs.Traps.{entered_mstatus, left_mstatus, excepted, enter_of, leave_of, IsKept}
+use Rattle.ibx_trap.specs.Traps.{entered_mstatus, left_mstatus, excepted, leave_of, IsKept}
 
 -- the bits of mstatus that a write doesn't keep
 abbrev other_bits : ℕ
@@ -46,27 +46,10 @@ pub excepted-below : (m : ℕ) → m < 2 ^ 8 → excepted m < 2 ^ 8
 excepted-below m h = set-below (has_some m sync_exc_seen) (bit_or m sync_exc_seen) double_fault_seen
     (or_lt 8 m sync_exc_seen h (omega arith)) (omega arith)
 
--- an interrupt leaves cpuctrl as it is, so that its byte stays a byte after either trap
-mark-below : (irq : Bool) (m : ℕ) → m < 2 ^ 8 → (if irq then m else excepted m) < 2 ^ 8
-mark-below true m h = h
-mark-below false m h = excepted-below m h
-
 -- the cause keeps to its bits below the interrupt flag
 pub cause-kept : (irq : Bool) (cause : ℕ) → cause < 32 → (if irq then cause + 2 ^ 31 else cause) % 2 ^ 31 < 32
 cause-kept true cause h = omega arith
 cause-kept false cause h = omega arith
-
--- so a trap leaves registers as a write would keep them
-pub enter-kept : (r : TrapRegs) (pc cause : ℕ) (irq : Bool) (tval : ℕ) → IsKept r → pc % 2 ≡ 0 → cause < 32
-    → IsKept (enter_of r pc cause irq tval)
-unfolding enter_of
-enter-kept r pc cause irq tval h even small = record {
-  mstatus = entered-kept r.mstatus r.machine h.mstatus;
-  mtvec = h.mtvec;
-  mepc = even;
-  mcause = cause-kept irq cause small;
-  cpuctrl = mark-below irq r.cpuctrl h.cpuctrl;
-}
 
 -- a byte without some of its bits is one
 below-and : (m n : ℕ) → m < 2 ^ 8 → bit_and m n < 2 ^ 8

@@ -5,8 +5,8 @@ use Rattle.ibx_pmp.proofs.protection.allow.Goals as goal
 
 pub returns-then-size-eq0 : goal.returns-then-size-eq0
 unfolding allowed decided
-returns-then-size-eq0 c = sym (rw c.if-size-eq0.true
-    (decided-nothing 0 c.args.r.now.cfg c.args.r.now.addr c.args.addr c.args.kind c.args.machine))
+returns-then-size-eq0 c = c.without_entry.ensures ∙ sym (rw c.if-size-eq0.true
+    (decided-nothing c.args.r.now.sec 0 c.args.r.now.cfg c.args.r.now.addr c.args.addr c.args.kind c.args.machine))
 
 pub loop-i-init : goal.loop-i-init
 unfolding allowed decided
@@ -15,7 +15,7 @@ loop-i-init c = (search rules, refl)
 pub returns-then-covers_word : goal.returns-then-covers_word
 returns-then-covers_word c =
     let some : 1 ≤ c.args.size = omega arith in
-    let from = decided-from c.loop-i.lower c.loop-i.i c.args.r.now.cfg c.args.r.now.addr c.args.addr c.args.size
+    let from = decided-from c.args.r.now.sec c.loop-i.lower c.loop-i.i c.args.r.now.cfg c.args.r.now.addr c.args.addr c.args.size
     c.args.kind c.args.machine some c.requires (omega (arith, c.type_inv.r)) (omega (arith, c.type_inv.r)) in
     c.allows.ensures ∙ sym (c.loop-i.invariant.1 ∙ from
     ∙ rw (sym (sym c.if-covers_word.true ∙ c.covers_word.ensures)) refl)
@@ -23,7 +23,7 @@ returns-then-covers_word c =
 pub loop-i-preserved : goal.loop-i-preserved
 loop-i-preserved c =
     let some : 1 ≤ c.args.size = omega arith in
-    let from = decided-from c.loop-i.lower c.loop-i.i c.args.r.now.cfg c.args.r.now.addr c.args.addr c.args.size
+    let from = decided-from c.args.r.now.sec c.loop-i.lower c.loop-i.i c.args.r.now.cfg c.args.r.now.addr c.args.addr c.args.size
     c.args.kind c.args.machine some c.requires (omega (arith, c.type_inv.r)) (omega (arith, c.type_inv.r)) in (
       c.loop-i.invariant.0,
       c.loop-i.invariant.1 ∙ from
@@ -31,6 +31,6 @@ loop-i-preserved c =
     )
 
 pub returns : goal.returns
-returns c = sym (c.loop-i.invariant.1
-    ∙ decided-none c.loop-i.lower c.loop-i.i c.args.r.now.cfg c.args.r.now.addr c.args.addr c.args.size c.args.kind
+returns c = c.without_entry-2.ensures ∙ sym (c.loop-i.invariant.1
+    ∙ decided-none c.args.r.now.sec c.loop-i.lower c.loop-i.i c.args.r.now.cfg c.args.r.now.addr c.args.addr c.args.size c.args.kind
     c.args.machine (omega (arith, c.loop-i.invariant.0)))

@@ -1,8 +1,6 @@
-use Rattle.std.proofs.Common.{ap, ◌∙◌}
-use Rattle.ibx_core.specs.Flipped.{wire_flip}
 use Rattle.ibx_lockstep.specs.Seen.{seen}
 use Rattle.ibx_soc.proofs.Bits.{age_bit, wire_inside}
-use Rattle.ibx_soc.proofs.Delayed.{slot_inside, with_wire}
+use Rattle.ibx_soc.proofs.Delayed.{with_wire}
 use Rattle.ibx_soc.proofs.soc.flip_delay.Goals as goal
 
 pub flipped_age-requires-clause-bit : goal.flipped_age-requires-clause-bit

@@ -1,4 +1,3 @@
-use Rattle.std.proofs.Common.{◌≡◌}
 use Rattle.ibx_lockstep.specs.Paired.{finds}
 use Rattle.ibx_lockstep.proofs.Pairs.{moved}
 use Rattle.ibx_lockstep.proofs.pair.Pair.finish.Goals as goal

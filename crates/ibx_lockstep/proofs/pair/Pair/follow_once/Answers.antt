@@ -1,4 +1,4 @@
-use Rattle.std.proofs.Common.{◌≡◌, ◌≤◌, ◌<◌, sym, arith}
+use Rattle.std.proofs.Common.{◌≤◌, ◌<◌, sym, arith}
 use Rattle.ibx_lockstep.specs.Delays.{cycles_of}
 use Rattle.ibx_lockstep.proofs.Pairs.{found_is, not_found}
 use Rattle.ibx_lockstep.proofs.pair.Pair.follow_once.Goals as goal
