@@ -19,7 +19,8 @@ use Rattle.ibx_time.specs.History.{with_event, told}
 use Rattle.ibx_time.specs.Chains.{IsChain, HasChain, story_after}
 use Rattle.ibx_time.proofs.Controls.{ctl_of-reset}
 use Rattle.ibx_time.proofs.Follows.{HasCtl, continued_ctl}
-use Rattle.ibx_time.proofs.Seen.{done_after, taken_state}
+use Rattle.ibx_time.proofs.Seen.{taken_state}
+use Rattle.ibx_time.proofs.Timed.{done_after}
 use Rattle.ibx_time.proofs.Views.{view_interrupt}
 
 -- ---- an interrupt is done in the cycle after its admission

@@ -2,8 +2,8 @@
 use Rattle.std.proofs.Common.{◌≡◌, ℕ, Bool, true, false, Option, Some, None, refl}
 use Rattle.std.specs.Prelude.{slice_set, if◌then◌else◌}
 use Rattle.ibx_csr.specs.declared.name.Csr.{Csr}
-use Rattle.ibx_csr.specs.declared.name.Csr.TheVariants.{Mstatus, Mie, Pmpcfg, Pmpaddr, Cpuctrl}
-use Rattle.ibx_csr.specs.Kept.{is_addr_locked}
+use Rattle.ibx_csr.specs.declared.name.Csr.TheVariants.{Mstatus, Mie, Pmpcfg, Pmpaddr, Cpuctrl, Mseccfg}
+use Rattle.ibx_csr.specs.Kept.{is_addr_held}
 use Rattle.ibx_csr.specs.Bits.{is_control_at}
 use Rattle.ibx_csr.specs.Table.{writable}
 use Rattle.ibx_csr.specs.Values.{CsrValues, cfg_bytes, csr_reset, csr_tick, csr_write, counters_after, put_at}
@@ -43,13 +43,13 @@ ctl_of-leave v = refl
 by_register : (v : CsrValues) (c : Csr) (w : ℕ)
     → ctl_of (put_value v c w) ≡ ctl_of (put_value (values_of (ctl_of v)) c w)
 unfolding put_value
-by_register v (Pmpaddr k) w = by_locked (is_addr_locked (cfg_bytes v) k)
+by_register v (Pmpaddr k) w = by_held (is_addr_held v.mseccfg (cfg_bytes v) k)
   where
-    by_locked : (b : Bool) → ctl_of (if b then v else record v { pmpaddr = slice_set v.pmpaddr k w })
+    by_held : (b : Bool) → ctl_of (if b then v else record v { pmpaddr = slice_set v.pmpaddr k w })
         ≡ ctl_of (if b then values_of (ctl_of v)
         else record (values_of (ctl_of v)) { pmpaddr = slice_set v.pmpaddr k w })
-    by_locked true = refl
-    by_locked false = refl
+    by_held true = refl
+    by_held false = refl
 by_register v _ w = refl
 
 -- the same for the register that there may be; without one nothing is written
@@ -73,6 +73,7 @@ loose_put v Mie w e = absurd (cc)
 loose_put v (Pmpcfg k) w e = absurd (cc)
 loose_put v (Pmpaddr k) w e = absurd (cc)
 loose_put v Cpuctrl w e = absurd (cc)
+loose_put v Mseccfg w e = absurd (cc)
 loose_put v _ w e = refl
 
 -- a write that finds no register, or a loose one, leaves them

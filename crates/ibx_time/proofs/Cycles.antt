@@ -18,7 +18,7 @@ use Rattle.ibx_time.specs.Cycles.{cycle_of, IsTimed, EqualViewsEqualCycles}
 use Rattle.ibx_time.specs.History.{opening, told_below, history}
 use Rattle.ibx_time.proofs.SameViews.{step_view}
 use Rattle.ibx_time.proofs.Views.{event_cycle, view_pc, view_interrupt, view_real}
-use Rattle.ibx_time.proofs.Timed.{HasViews, timed, pc_is, first_low, late, more}
+use Rattle.ibx_time.proofs.Timed.{HasViews, timed, pc_is, first_after, done_after, more}
 
 -- the views say what the times need, so the cycles of a history are those of its views
 pub has_views : (s : Setup) → HasViews s
@@ -57,8 +57,8 @@ first_agree (suc n) (suc m) c p f g = agree_by n m c p (p c) (first_agree n m (c
 up_to : (a b e : ℕ) (p : ℕ → Bool) → first_from (a - e) p e < a → first_from (b - e) p e < b
     → first_from (a - e) p e ≡ first_from (b - e) p e
 up_to a b e p f g =
-    let la : e ≤ first_from (a - e) p e = first_low (a - e) p e in
-    let lb : e ≤ first_from (b - e) p e = first_low (b - e) p e in
+    let la : e ≤ first_from (a - e) p e = first_after (a - e) p e in
+    let lb : e ≤ first_from (b - e) p e = first_after (b - e) p e in
     first_agree (a - e) (b - e) e p (omega (arith, f, la)) (omega (arith, g, lb))
 
 -- so it is for the end of an item, for its done cycle and for an admission
@@ -92,7 +92,7 @@ admissions_agree k a b done x v f g = up_to a b done (λ t. is_ready (kind_at k 
 
 -- an item that is done before a limit is admitted before it
 before_done : (k : Settings) (a t : ℕ) (x : Times) (v : View) → done_for k a t x v < a → t < a
-before_done k a t x v f = omega (arith, f, late k a t (item_for k t x v) x)
+before_done k a t x v f = omega (arith, f, done_after k a t (item_for k t x v) x)
 
 -- ---- one item, with two limits
 

@@ -71,7 +71,7 @@ victim_unseen s fs fills c t line h =
     (free_unseen fs c t (last_fill fills (slot_of line true)) h)
 
 -- what a request leaves depends on these four tests
-by_four : (b k u l : Bool) (n : Bool) (x z : ℕ) (v w : Bool) (s : Settings) (y : Past) (t a : ℕ) → b ≡ u → k ≡ l
+pub by_four : (b k u l : Bool) (n : Bool) (x z : ℕ) (v w : Bool) (s : Settings) (y : Past) (t a : ℕ) → b ≡ u → k ≡ l
     → x ≡ z → v ≡ w → request_by b k n x v s y t a ≡ request_by u l n z w s y t a
 by_four b k u l n x z v w s y t a p q r e = cc
 

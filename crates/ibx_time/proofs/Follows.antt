@@ -1,6 +1,6 @@
 -- The control registers of the times are those of the architecture's state, event by event.
-use Rattle.std.proofs.Common.{◌≡◌, ℕ, zero, suc, nat_lt, ◌+◌, ◌-◌, ◌%◌, ◌^◌, not, Bool, true, false, List, Option}
-use Rattle.std.proofs.Common.{Some, None, refl, sym, ap, ◌∙◌, subst, if◌then◌else◌}
+use Rattle.std.proofs.Common.{◌≡◌, ℕ, ◌+◌, ◌-◌, ◌%◌, ◌^◌, not, Bool, true, false, List, Option}
+use Rattle.std.proofs.Common.{Some, None, refl, sym, ap, ◌∙◌, if◌then◌else◌}
 use Rattle.ibx_isa.specs.declared.insn.Insn.{Insn}
 use Rattle.ibx_isa.specs.declared.insn.Insn.TheVariants.{Lui, Auipc, Jal, Jalr, Branch, Load, Store, AluImm, Alu}
 use Rattle.ibx_isa.specs.declared.insn.Insn.TheVariants.{MulDiv, Csr, Fence, FenceI, Ecall, Ebreak, Mret, Wfi}
@@ -24,17 +24,15 @@ use Rattle.ibx_arch.specs.Fetch.{fetch}
 use Rattle.ibx_decoder.specs.Instructions.{instruction_of}
 use Rattle.ibx_arch.specs.State.{State, reg, at_cycle}
 use Rattle.ibx_arch.specs.Step.{Choice, Interrupt, Parcels, after_fetch, decoded, stepped_by, finished, instruction}
-use Rattle.ibx_arch.specs.Step.{interrupted, operands, reset_state, step_with}
+use Rattle.ibx_arch.specs.Step.{interrupted, operands, step_with}
 use Rattle.ibx_time.specs.Settings.{Settings, Setup, settings_of, lines_in}
 use Rattle.ibx_time.specs.Controls.{Ctl, ctl_of, ctl_after, ctl_entered, ctl_left, ctl_retired, ctl_written}
 use Rattle.ibx_time.specs.Items.{Item}
-use Rattle.ibx_time.specs.Times.{admitted, after_event, first_times}
-use Rattle.ibx_time.specs.History.{Story, view_with, taken, continued, choice_at, item_at, done_at, ended_by, opening}
-use Rattle.ibx_time.specs.History.{admission, told, told_below}
+use Rattle.ibx_time.specs.Times.{admitted, after_event}
+use Rattle.ibx_time.specs.History.{Story, view_with, taken, continued, choice_at, item_at, done_at, ended_by}
 use Rattle.ibx_time.proofs.Controls.{ctl_of-counters, ctl_of-tick, ctl_of-enter, ctl_of-write, ctl_of-other}
-use Rattle.ibx_time.proofs.Controls.{ctl_of-reset}
 use Rattle.ibx_time.proofs.SameViews.{step_view}
-use Rattle.ibx_time.proofs.Timed.{left_is}
+use Rattle.ibx_time.proofs.Seen.{taken_state}
 use Rattle.ibx_csr.specs.Modes.{may_wait}
 use Rattle.ibx_csr.specs.Bits.{is_control_at}
 
@@ -280,38 +278,8 @@ taken_ctl : (s : Setup) (t : ℕ) (h : Story) → (taken s t h).times.ctl ≡ h.
 unfolding taken admitted
 taken_ctl s t h = refl
 
--- an admission leaves the state of the architecture
-taken_state : (s : Setup) (t : ℕ) (h : Story) → (taken s t h).state ≡ h.state
-unfolding taken
-taken_state s t h = refl
-
 -- after one item more the times' registers are still the state's
 pub continued_ctl : (s : Setup) (limit t : ℕ) (h : Story) → HasCtl h → HasCtl (continued s limit t h)
 unfolding continued
 continued_ctl s limit t h e = ended_follows s h (taken s t h) (choice_at s t h) (item_at s t h) (done_at s limit t h)
     (taken_ctl s t h) (taken_state s t h) e
-
--- at reset both are the reset values
-opening_ctl : (s : Setup) → HasCtl (opening s)
-unfolding first_times reset_state
-opening_ctl s = sym (ctl_of-reset s.image.entry)
-
--- it stays so whether the next item is done before limit, and the story goes on, or not
-told_by : (s : Setup) (limit n : ℕ) (h : Story) (b : Bool) → nat_lt (done_at s limit (admission s limit h) h) limit ≡ b
-    → HasCtl (told s limit n (continued s limit (admission s limit h) h)).story → HasCtl h
-    → HasCtl (told s limit (suc n) h).story
-told_by s limit n h true e rest here = subst HasCtl (sym (left_is s limit n h true e)) rest
-told_by s limit n h false e rest here = subst HasCtl (sym (left_is s limit n h false e)) here
-
--- from such a story on, any number of items that are told leave such a story
-pub told_ctl : (s : Setup) (limit n : ℕ) (h : Story) → HasCtl h → HasCtl (told s limit n h).story
-unfolding told
-told_ctl s limit zero h e = e
-told_ctl s limit (suc n) h e =
-    told_by s limit n h (nat_lt (done_at s limit (admission s limit h) h) limit) refl
-    (told_ctl s limit n (continued s limit (admission s limit h) h) (continued_ctl s limit (admission s limit h) h e))
-    e
-
--- the registers of every history's times are those of its state
-pub history_ctl : (s : Setup) (n : ℕ) → HasCtl (told_below s n).story
-history_ctl s n = told_ctl s n n (opening s) (opening_ctl s)

@@ -25,3 +25,7 @@ pub mod Written
 pub mod Settled
 pub mod Told
 pub mod Halts
+pub mod Walks
+pub mod Logs
+pub mod Halves
+pub mod Answered

@@ -2,6 +2,7 @@
 use Rattle.std.proofs.Common.{◌≡◌, ℕ, Bool, true, false, Option, Some, None, refl, if◌then◌else◌}
 use Rattle.ibx_csr.specs.declared.name.Csr.{Csr}
 use Rattle.ibx_csr.specs.declared.name.Csr.TheVariants.{Mstatus, Mie, Mip, Pmpcfg, Pmpaddr, Cpuctrl, Mcycle, Mcycleh}
+use Rattle.ibx_csr.specs.declared.name.Csr.TheVariants.{Mseccfg}
 use Rattle.ibx_csr.specs.Bits.{is_control_in, is_control_at}
 use Rattle.ibx_csr.specs.Table.{csr_of, readable, writable, is_read_only}
 
@@ -19,6 +20,7 @@ is_loose (Some Mie) = false
 is_loose (Some (Pmpcfg k)) = false
 is_loose (Some (Pmpaddr k)) = false
 is_loose (Some Cpuctrl) = false
+is_loose (Some Mseccfg) = false
 is_loose _ = true
 
 -- ---- the two kinds of register
@@ -37,6 +39,7 @@ loose_if (Some Mie) e = absurd (cc)
 loose_if (Some (Pmpcfg k)) e = absurd (cc)
 loose_if (Some (Pmpaddr k)) e = absurd (cc)
 loose_if (Some Cpuctrl) e = absurd (cc)
+loose_if (Some Mseccfg) e = absurd (cc)
 loose_if _ e = refl
 
 -- at the address of a control register stands neither a half of mcycle nor mip

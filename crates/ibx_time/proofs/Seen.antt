@@ -8,27 +8,25 @@ use Rattle.ibx_isa.specs.declared.insn.Insn.{Insn}
 use Rattle.ibx_isa.specs.declared.insn.Insn.TheVariants.{Lui, Auipc, Jal, Jalr, Branch, Load, Store, AluImm, Alu}
 use Rattle.ibx_isa.specs.declared.insn.Insn.TheVariants.{MulDiv, Csr, Fence, FenceI, Ecall, Ebreak, Mret, Wfi}
 use Rattle.ibx_isa.specs.declared.event.View.{View}
-use Rattle.ibx_plan.specs.declared.site.Wait.{Wait}
 use Rattle.ibx_bus.specs.PortTimes.{grant_time, answer_time}
 use Rattle.ibx_decoder.specs.Instructions.{instruction_of}
 use Rattle.ibx_arch.specs.Step.{Choice, Interrupt, step_with}
-use Rattle.ibx_time.specs.Search.{first_from}
 use Rattle.ibx_time.specs.Settings.{Settings, Setup, settings_of, lines_in}
 use Rattle.ibx_time.specs.Controls.{Ctl, is_fixed, ctl_after}
-use Rattle.ibx_time.specs.Items.{Item, Portions, NoPortion, One, OneBad, Two, TwoBad, item_of, dummy_item, plain}
+use Rattle.ibx_time.specs.Items.{Item, item_of, dummy_item, plain}
 use Rattle.ibx_time.specs.Items.{branching, is_turned, parcels_of, portions_for, trap_parcels, retired_item}
 use Rattle.ibx_time.specs.Requests.{Past, Fill, made, line_of, slot_of, last_fill, fill_grant, half_grant, is_upper}
 use Rattle.ibx_time.specs.Requests.{found_slot, victim, is_kept, first_grant, second_grant, second_answer, request_by}
 use Rattle.ibx_time.specs.Requests.{is_present, is_cached, none_between, holds_line, in_way, fill_of}
 use Rattle.ibx_time.specs.Streams.{Stream, gate, past, answer, issue, requested, redirected, redirected_to, word_addr}
 use Rattle.ibx_time.specs.Times.{half_after, Times, Kind, AnInterrupt, ADummy, AnInstruction, kind_at, is_ready}
-use Rattle.ibx_time.specs.Times.{has_answered, admitted, after_event, done_of, done_by, stop_of, may_end, marked}
+use Rattle.ibx_time.specs.Times.{has_answered, admitted, after_event, marked}
 use Rattle.ibx_time.specs.Times.{target_if, first_times}
 use Rattle.ibx_time.specs.History.{Story, opening, view_with, brought_parcels, words_there, admission, kind_of}
 use Rattle.ibx_time.specs.History.{choice_by, choice_at, item_by, item_at, done_at, taken, ended_by, continued}
 use Rattle.ibx_time.specs.Chains.{SeenAt, AreSeen, story_after, HasSeen}
 use Rattle.ibx_time.proofs.Times.{IsSound, past_suc, past_sound, grant_before, issue_is, issue_mono, after_issue}
-use Rattle.ibx_time.proofs.Timed.{first_found}
+use Rattle.ibx_time.proofs.Timed.{done_after, first_after, first_found}
 use Rattle.ibx_time.proofs.Views.{view_interrupt}
 use Rattle.ibx_arch.specs.Memory.{is_mapped}
 
@@ -271,7 +269,7 @@ brought_fresh k x j z =
     (omega (arith, (first_issue k x).0, issue_mono k x 0 j (omega arith))) z.fresh)
 
 -- a FENCE.I that is not before the fills
-fenced_clear : (fences : List ℕ) (fills : List Fill) (d v : ℕ) → v ≤ d → AreStored fills v → AreClear fences fills
+pub fenced_clear : (fences : List ℕ) (fills : List Fill) (d v : ℕ) → v ≤ d → AreStored fills v → AreClear fences fills
     → AreClear (d ∷ fences) fills
 fenced_clear fences [] d v late s z = tt
 fenced_clear fences (x ∷ fills) d v late s z =
@@ -383,38 +381,6 @@ choice_turns s h (Some choice) e = item_turns (settings_of s) h.times.ctl (view_
 choice_turns s h None e = let no_ : true ≡ false = sym e ∙ dummy_fences s h in cc
 
 -- ---- the times of an item
-
--- a search doesn't end before it begins, so nothing is done before its enter
-first_by : (n : ℕ) (p : ℕ → Bool) (c : ℕ) (b : Bool) → c + 1 ≤ first_from n p (c + 1)
-    → c ≤ (if b then c else first_from n p (c + 1))
-first_by n p c true h = omega arith
-first_by n p c false h = omega (arith, h)
-
--- a search ends where it begins, or later
-pub first_after : (n : ℕ) (p : ℕ → Bool) (c : ℕ) → c ≤ first_from n p c
-unfolding first_from
-first_after zero p c = omega arith
-first_after (suc n) p c = first_by n p c (p c) (first_after n p (c + 1))
-
--- no item is done before its enter, whatever its portions wait for
-pub done_after_by : (waits : List Wait) (portions : Portions) (n e stop : ℕ) → e ≤ stop
-    → e ≤ done_by waits portions n e stop
-unfolding done_by answer_time grant_time
-done_after_by waits NoPortion n e stop h = h
-done_after_by waits One n e stop h = omega arith
-done_after_by waits OneBad n e stop h = omega arith
-done_after_by waits Two n e stop h = omega arith
-done_after_by waits TwoBad n e stop h = omega arith
-
--- an item is done after its admission
-pub done_after : (k : Settings) (limit t : ℕ) (i : Item) (x : Times) → t < done_of k limit t i x
-unfolding done_of
-done_after k limit t i x =
-    omega (
-      arith,
-      done_after_by k.plan.dwaits i.portions x.made (t + 1) (stop_of k limit i x.ctl (t + 1))
-          (first_after (limit - (t + 1)) (may_end k i x.ctl (t + 1)) (t + 1)),
-    )
 
 -- an item is admitted in the done cycle of the one before it, or later
 pub admission_after : (s : Setup) (limit : ℕ) (h : Story) → h.done ≤ admission s limit h

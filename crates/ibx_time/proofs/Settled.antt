@@ -41,7 +41,8 @@ use Rattle.ibx_time.specs.Chains.{story_after}
 use Rattle.ibx_time.proofs.SameViews.{step_view}
 use Rattle.ibx_time.proofs.Follows.{HasCtl}
 use Rattle.ibx_time.proofs.Chains.{story_ctl}
-use Rattle.ibx_time.proofs.Seen.{taken_state, admission_after, done_after_by, first_after}
+use Rattle.ibx_time.proofs.Seen.{taken_state, admission_after}
+use Rattle.ibx_time.proofs.Timed.{done_after_by, first_after}
 use Rattle.ibx_time.proofs.States.{IsGood}
 use Rattle.ibx_time.proofs.Stories.{IsSane, story_good}
 use Rattle.ibx_time.proofs.Written.{all_written, cut_access, leaves, leaves_for, store_leaves, writes_leave}
@@ -362,7 +363,7 @@ all_at m (w ∷ ws) c h =
     rw (lt-ltb w.time c h.0) (ap (λ x. with_bytes x w.addr w.from w.to w.value) (all_at m ws c h.1))
 
 -- writes before a cycle are before a later one
-later_before : (ws : List Write) (c d : ℕ) → c ≤ d → IsBefore ws c → IsBefore ws d
+pub later_before : (ws : List Write) (c d : ℕ) → c ≤ d → IsBefore ws c → IsBefore ws d
 later_before [] c d h z = tt
 later_before (w ∷ ws) c d h z = (omega (arith, z.0), later_before ws c d h z.1)
 

@@ -38,8 +38,9 @@ use Rattle.ibx_arch.specs.State.{State, reg, at_cycle}
 use Rattle.ibx_arch.specs.Step.{Choice, Interrupt, Parcels, after_fetch, decoded, stepped_by, finished, instruction}
 use Rattle.ibx_arch.specs.Step.{interrupted, operands, step_with}
 use Rattle.ibx_time.specs.Settings.{Settings, lines_in}
-use Rattle.ibx_time.proofs.Values.{IsWord, IsValues, index_low, set_low, read_low, written_low, write_keeps}
-use Rattle.ibx_time.proofs.Values.{tick_keeps, counters_keep, enter_keeps, leave_keeps}
+use Rattle.ibx_csr.specs.Widths.{IsWord, IsValues}
+use Rattle.ibx_csr.proofs.Widths.{index_low, set_low, read_low, written_low, write_keeps, tick_keeps, counters_keep}
+use Rattle.ibx_time.proofs.Values.{enter_keeps, leave_keeps}
 use Rattle.ibx_time.proofs.Words.{alu_low, md_low, loaded_low}
 use Rattle.ibx_csr.specs.Modes.{may_wait}
 use Rattle.ibx_csr.specs.Bits.{is_control_at}

@@ -18,7 +18,8 @@ use Rattle.ibx_time.specs.History.{Story, brought, brought_parcels, admission, k
 use Rattle.ibx_time.specs.History.{done_at, taken, ended_by, continued}
 use Rattle.ibx_time.specs.Chains.{story_after}
 use Rattle.ibx_time.proofs.Seen.{taken_state}
-use Rattle.ibx_time.proofs.Values.{IsValues, mtvec_low}
+use Rattle.ibx_csr.specs.Widths.{IsValues}
+use Rattle.ibx_csr.proofs.Widths.{mtvec_low}
 use Rattle.ibx_time.proofs.Words.{two_bytes}
 use Rattle.ibx_time.proofs.States.{IsGood, IsGoodMemory, bytes_keep, read_low_byte, step_good}
 use Rattle.ibx_arch.specs.Laws.{AreParcels}
@@ -33,7 +34,7 @@ pub record IsSane (s : Setup) : Type 0 where
 -- ---- memory over time
 
 -- the image's memory has bytes, and keeps them with any writes
-image_good : (s : Setup) → IsSane s → IsGoodMemory s.image.ram (image_memory s.image)
+pub image_good : (s : Setup) → IsSane s → IsGoodMemory s.image.ram (image_memory s.image)
 unfolding image_memory
 image_good s ok = record {
   ram_is = refl;
@@ -126,6 +127,7 @@ reset_values entry = record {
   cpuctrl = omega arith;
   mcycle = omega arith;
   minstret = omega arith;
+  mseccfg = omega arith;
 }
 
 -- so the state at reset is valid

@@ -74,7 +74,7 @@ abbrev pub with_enter : Stream → ℕ → Stream
 with_enter x e = record x { enters = x.enters ++ e ∷ [] }
 
 -- it holds back just the word three behind it
-gate_more : (x : Stream) (e j : ℕ) → j < length x.enters + 3 → gate (with_enter x e) j ≡ gate x j
+pub gate_more : (x : Stream) (e j : ℕ) → j < length x.enters + 3 → gate (with_enter x e) j ≡ gate x j
 unfolding gate
 gate_more x e zero h = refl
 gate_more x e (suc zero) h = refl
@@ -82,7 +82,7 @@ gate_more x e (suc (suc zero)) h = refl
 gate_more x e (suc (suc (suc i))) h = get_or-append x.enters (e ∷ []) 0 i (omega arith)
 
 -- the new enter holds back the word three behind the one whose last half it takes
-gate_end : (x : Stream) (e j : ℕ) → j ≡ length x.enters + 3 → gate (with_enter x e) j ≡ e
+pub gate_end : (x : Stream) (e j : ℕ) → j ≡ length x.enters + 3 → gate (with_enter x e) j ≡ e
 unfolding gate
 gate_end x e zero h = absurd (omega arith)
 gate_end x e (suc zero) h = absurd (omega arith)

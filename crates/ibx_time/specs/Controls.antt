@@ -8,7 +8,7 @@ use Rattle.ibx_trap.specs.Traps.{enter_of, leave_of}
 use Rattle.ibx_decoder.specs.Instructions.{instruction_of}
 use Rattle.ibx_isa.specs.ControlBits.{icache_enable, data_ind_timing}
 
--- the mode, mstatus, mie, cpuctrl and the registers of the protection unit
+-- the mode, mstatus, mie, cpuctrl, and the registers of the protection unit with mseccfg
 pub record Ctl : Type 0 where
   pub machine : Bool
   pub mstatus : ℕ
@@ -16,6 +16,7 @@ pub record Ctl : Type 0 where
   pub cpuctrl : ℕ
   pub pmpcfg : List ℕ
   pub pmpaddr : List ℕ
+  pub mseccfg : ℕ
 
 -- those of all registers
 abbrev pub ctl_of : CsrValues → Ctl
@@ -26,6 +27,7 @@ ctl_of v = record {
   cpuctrl = v.cpuctrl;
   pmpcfg = v.pmpcfg;
   pmpaddr = v.pmpaddr;
+  mseccfg = v.mseccfg;
 }
 
 -- the same among all registers, of which the others are 0
@@ -45,6 +47,7 @@ values_of c = record {
   minstret = 0;
   pmpcfg = c.pmpcfg;
   pmpaddr = c.pmpaddr;
+  mseccfg = c.mseccfg;
 }
 
 -- their reset values

@@ -1,6 +1,6 @@
 -- The data port's share of a cycle: the grant, the word that it reads, what it leaves of memory, and the fields after
 -- it.
-use Rattle.std.proofs.Common.{◌≡◌, ◌≢◌, ℕ, suc, ◌+◌, ◌<◌, ◌≤◌, ◌⊎◌, Bool, true, false, List, [], ◌∷◌, refl, sym, ap}
+use Rattle.std.proofs.Common.{◌≡◌, ◌≢◌, ℕ, suc, ◌+◌, ◌<◌, ◌≤◌, Bool, true, false, List, [], ◌∷◌, refl, sym, ap}
 use Rattle.std.proofs.Common.{◌∙◌, inl, inr, arith, subst, Some, None, Option}
 use Rattle.ibx_plan.specs.declared.site.Wait.{Wait}
 use Rattle.ibx_isa.specs.declared.bus.Req.{Req}
@@ -14,8 +14,7 @@ use Rattle.ibx_arch.specs.Memory.{Memory, image_memory}
 use Rattle.ibx_bus.specs.Memory.{MemoryState, error_of, memory_after, memory_next, answered_word}
 use Rattle.ibx_bus.specs.Port.{PortState, grants, port_next}
 use Rattle.ibx_bus.specs.PortTimes.{answer_time, grant_time}
-use Rattle.ibx_bus.proofs.Ports.{Granted, Grants, Waits, free_rests, free_starts, granted_goes, moved, no_grant}
-use Rattle.ibx_bus.proofs.Ports.{waiting_goes}
+use Rattle.ibx_bus.proofs.Ports.{Granted, free_rests, granted_goes, moved, no_grant}
 use Rattle.ibx_time.specs.Settings.{Setup}
 use Rattle.ibx_time.specs.Items.{NoPortion, Portions}
 use Rattle.ibx_time.specs.Times.{portion_answer, portion_grant, portion_issue}
@@ -24,23 +23,20 @@ use Rattle.ibx_time.specs.History.{Story, access_at, item_at, taken}
 use Rattle.ibx_id.specs.declared.stage.IdState.{IdState}
 use Rattle.ibx_time_invariant.proofs.DataWires.{ask_early}
 use Rattle.ibx_time_invariant.proofs.Fetches.{is_unmapped}
-use Rattle.ibx_time_invariant.proofs.Links.{Ask, due, held}
+use Rattle.ibx_time_invariant.proofs.Links.{Ask}
 use Rattle.ibx_time_invariant.proofs.Quiets.{image_low, memory_low}
 use Rattle.ibx_time_invariant.proofs.Stages.{AreAccesses, IsAccess, LsAt, LsMid, Portion, ls_asked, StageMid, asks, failed}
 use Rattle.ibx_time_invariant.proofs.Stages.{issue_at, new, number_at, opened, portion_word, quiet, turns, waiting}
 use Rattle.ibx_time_invariant.proofs.StageSide.{AfterPort, StagePorts}
 use Rattle.ibx_time_invariant.proofs.Ties.{IsBefore, IsPlaced, IsSettled, IsState, MemoryAt}
 use Rattle.ibx_time_data.proofs.PortsMemory.{error_is, load_leaves, memory_with, store_holds, word_is}
-use Rattle.ibx_time_data.proofs.PortsWrites.{Stays, item_stays, load_writes, memory_ram, no_writes, portion_written}
+use Rattle.ibx_time_data.proofs.PortsWrites.{Stays, item_stays, load_writes, no_writes, portion_written}
 use Rattle.ibx_time_data.proofs.PortsWrites.{same_write}
+use Rattle.ibx_time_invariant.proofs.Quiets.{image_ram}
+use Rattle.ibx_time_invariant.proofs.DataWires.{ask}
 use Rattle.ibx_memory.specs.Coded.{HoldsMemory}
 
 -- ---- memory over the cycle
-
--- memory keeps its range
-image_ram : (s : Setup) (ws : List Write) (c : ℕ) → (memory_at (image_memory s.image) ws c).ram ≡ s.image.ram
-unfolding image_memory
-image_ram s ws c = memory_ram (image_memory s.image) ws c
 
 -- writes that are all before the cycle
 all_before : (memory : Memory) (ws : List Write) (c : ℕ) → IsBefore ws c → Stays memory ws c
@@ -143,7 +139,7 @@ granted_word : (s : Setup) (t : ℕ) (h : Story) (c : ℕ) (w : Access) (b : Boo
     → IsAccess w → Portion s t h w b → IsState s (c + 1) h → IsSettled s c h → MemoryAt s (taken s t h) c m
     → answered_word m (request_of (encode_of 32 7) w b) ≡ encode_of 32 7 (portion_word h w b)
 granted_word s t h c w b m ok a r i settled v =
-    word_is s m h.state.memory w b ok.setup.ram i.ram a.addr
+    word_is s m h.state.memory w b ok.setup.ram i.good.ram_is a.addr
     (λ load. subst (λ x. HoldsMemory s.image.ram m x)
     (ap (λ ws. memory_at (image_memory s.image) ws c) (load_taken s t h w r.access load) ∙ sym settled.memory) v)
 
@@ -160,13 +156,6 @@ rests : (s : Setup) (t : ℕ) (h : Story) (c : ℕ) (req : Req) (next : Bool →
 rests s t h c req next p m e l =
     subst (λ (r : Req). Left s t h c next p m r (grants r.valid p)) (sym e)
     (subst (λ g. Left s t h c next p m no_request g) (sym (no_grant p)) l)
-
--- a request that is asked for is granted now or waits
-ask : (ws : List Wait) (n x c : ℕ) (err : Bool) (word : ℕ) (p : PortState) → Ask ws n x c p
-    → Grants ws n x err word c p ⊎ Waits ws n x err word c p
-ask ws n x c err word p (due e f) =
-    subst (λ v. Grants ws n v err word c p ⊎ Waits ws n v err word c p) (sym e) (free_starts ws n err word c p f)
-ask ws n x c err word p (held i) = waiting_goes ws n x err word c p i
 
 -- a portion that is asked for leaves them so
 asks_left : (s : Setup) (t : ℕ) (h : Story) (c : ℕ) (next : Bool → Lsu) (p : PortState) (m : MemoryState) (w : Access)

@@ -1,5 +1,5 @@
 -- Memory over a cycle by the writes of an item: with none of them in it, and with one.
-use Rattle.std.proofs.Common.{◌≡◌, ◌≢◌, ℕ, ◌+◌, ◌<◌, ◌≤◌, Bool, true, false, List, [], ◌∷◌, refl, sym, ap, ◌∙◌, inl}
+use Rattle.std.proofs.Common.{◌≡◌, ◌≢◌, ℕ, ◌+◌, ◌<◌, ◌≤◌, Bool, true, false, List, ◌∷◌, refl, sym, ap, ◌∙◌, inl}
 use Rattle.std.proofs.Common.{inr, arith, Option, Some, None}
 use Rattle.std.proofs.lemmas.Bool.{cases_lt, lt-ltb, le-ltb}
 use Rattle.ibx_plan.specs.declared.site.Wait.{Wait}
@@ -150,13 +150,3 @@ portion_written memory waits n e portions a true ws c r st now k =
     (λ h. absurd (omega arith)) now k
     ∙ sym (ap (λ v. memory_with (memory_at memory
     (written_by portions v (write_of waits n e a false) (write_of waits n e a true) ws) c) a true) st)
-
--- writes leave the range of RAM
-pub memory_ram : (memory : Memory) (ws : List Write) (c : ℕ) → (memory_at memory ws c).ram ≡ memory.ram
-unfolding memory_at with_bytes
-memory_ram memory [] c = refl
-memory_ram memory (w ∷ ws) c =
-    elim (cases_lt w.time c) [
-      | inl past ↦ rw (lt-ltb w.time c past) (memory_ram memory ws c)
-      | inr late ↦ rw (le-ltb w.time c late) (memory_ram memory ws c)
-    ]

@@ -1,12 +1,12 @@
 -- The admission of a cycle.
-use Rattle.std.proofs.Common.{◌≡◌, ℕ, zero, suc, ◌+◌, ◌-◌, ◌*◌, ◌/◌, ◌%◌, ◌^◌, ◌<◌, ◌≤◌, min, Bool, true, false, not}
+use Rattle.std.proofs.Common.{◌≡◌, ℕ, ◌+◌, ◌-◌, ◌*◌, ◌/◌, ◌%◌, ◌^◌, ◌<◌, ◌≤◌, min, Bool, true, false, not}
 use Rattle.std.proofs.Common.{List, length, Option, Some, None, refl, sym, ap, subst, ◌∙◌, arith}
 use Rattle.std.specs.Prelude.{◌==◌, ◌&&◌, if◌then◌else◌, nat_le}
 use Rattle.ibx_muldiv.specs.Unit.{idle_of as md_idle}
 use Rattle.ibx_lsu.specs.declared.unit.Lsu.{Lsu}
 use Rattle.ibx_bus.specs.Port.{PortState}
 use Rattle.ibx_csr.specs.Fields.{values}
-use Rattle.ibx_csr.specs.Values.{CsrValues, cfg_bytes, counters_after}
+use Rattle.ibx_csr.specs.Values.{CsrValues, cfg_bytes, sec_of, counters_after}
 use Rattle.ibx_csr.specs.declared.csrs.Csrs.{Csrs}
 use Rattle.ibx_pmp.specs.Ranges.{allowed}
 use Rattle.ibx_pmp.specs.declared.protection.AccessKind.TheVariants.{Execute}
@@ -34,30 +34,20 @@ use Rattle.ibx_time.proofs.Views.{view_interrupt}
 use Rattle.ibx_time_invariant.proofs.Fetches.{Shows, is_unmapped}
 use Rattle.ibx_time_invariant.proofs.Stages.{Empty, EmptyEnd, ItemAt, fault_by, fault_of, fetched, fresh, starts}
 use Rattle.ibx_time_invariant.proofs.Ties.{IsState, Tied}
-use Rattle.ibx_time_invariant.proofs.ArchSide.{ArchFetches, IsFetched, fetched_word, parcels_by}
+use Rattle.ibx_time_invariant.proofs.ArchSide.{ArchFetches, IsFetched, fetched_word}
 use Rattle.ibx_time_invariant.proofs.AdmitSide.{Admits, Admitted, Entered, entry_in_cycle, item, nothing}
 use Rattle.ibx_time_decode.proofs.Fetches.{fetch_by, fetch_is}
-use Rattle.ibx_time_decode.proofs.AdmitsHead.{Comes, answered_is, comes, comes_by, fetched_comes, nothing_comes}
-use Rattle.ibx_time_decode.proofs.AdmitsParts.{grows, same_wires, starts_portion}
+use Rattle.ibx_time_decode.proofs.AdmitsHead.{Comes, comes, fetched_comes, nothing_comes}
+use Rattle.ibx_time.proofs.Answered.{answered_is, comes_by, parcels_by}
+use Rattle.ibx_time.proofs.Logs.{grows}
+use Rattle.ibx_time_decode.proofs.AdmitsParts.{same_wires, starts_portion}
 use Rattle.ibx_prefetch.specs.declared.buffer.Head.{Head}
 use Rattle.ibx_id.specs.declared.stage.IdState.{IdState}
 use Rattle.ibx_id.specs.Turns.{empty_stage}
+use Rattle.ibx_time_invariant.proofs.Ends.{first_later, first_now}
 use Rattle.ibx_core.specs.Entries.{Entry, enters, entry_by, fetched_of, may_execute}
 
 -- ---- the search
-
--- a search ends here where the test holds, and else goes on
-first_now : (n : ℕ) (test : ℕ → Bool) (c : ℕ) → 0 < n → test c ≡ true → first_from n test c ≡ c
-unfolding first_from
-first_now zero test c h e = absurd (omega arith)
-first_now (suc n) test c h e = rw e refl
-
--- where the test fails, the search goes on in the next cycle with one try less
-first_later : (n : ℕ) (test : ℕ → Bool) (c : ℕ) → 0 < n → test c ≡ false
-    → first_from n test c ≡ first_from (n - 1) test (c + 1)
-unfolding first_from
-first_later zero test c h e = absurd (omega arith)
-first_later (suc n) test c h e = rw e (ap (λ k. first_from k test (c + 1)) (omega arith))
 
 -- what is next is ready
 abbrev may_enter : Setup → Story → ℕ → Bool
@@ -139,7 +129,7 @@ unfolding dummy_item
 dummy_parcels k d = refl
 
 -- the item by what is admitted
-item_is : (s : Setup) (c : ℕ) (h : Story) (kind : Kind) → kind_of s c h ≡ kind
+pub item_is : (s : Setup) (c : ℕ) (h : Story) (kind : Kind) → kind_of s c h ≡ kind
     → item_at s c h ≡ item_by s h (choice_by s h kind)
 unfolding item_at
 item_is s c h kind e = ap (λ k. item_by s h (choice_by s h k)) e
@@ -273,7 +263,7 @@ words_are s h c low p =
     (sound2 h) low p.parcels
 
 -- it takes two parcels at most
-parcels_low : (a long b : Bool) → parcels_by a long b ≤ 2
+pub parcels_low : (a long b : Bool) → parcels_by a long b ≤ 2
 parcels_low false long b = omega arith
 parcels_low true false b = omega arith
 parcels_low true true b = omega arith
@@ -340,11 +330,11 @@ double_not false = refl
 -- memory answers by the setup and by the state alike
 mapped_is : (s : Setup) (c : ℕ) (h : Story) (addr : ℕ) → IsState s c h
     → not (is_unmapped s addr) ≡ is_mapped h.state.memory.ram addr
-mapped_is s c h addr i = double_not (is_mapped s.image.ram addr) ∙ ap (λ r. is_mapped r addr) (sym i.ram)
+mapped_is s c h addr i = double_not (is_mapped s.image.ram addr) ∙ ap (λ r. is_mapped r addr) (sym i.good.ram_is)
 
 -- protection lets an address be executed
 abbrev allows : CsrValues → ℕ → Bool
-allows v addr = allowed (cfg_bytes v) v.pmpaddr addr 2 Execute v.machine
+allows v addr = allowed (sec_of v) (cfg_bytes v) v.pmpaddr addr 2 Execute v.machine
 
 -- it does so by the fields, by the registers and whatever the counters
 allows_fields : (csrs : Csrs) (addr : ℕ) → addr % 2 ≡ 0 → may_execute csrs addr ≡ allows (values csrs) addr
@@ -394,10 +384,10 @@ pair_comes s h c next_pc csrs regs head t i f g =
     (fetched_comes head.first.ready (not head.first.err && may_execute csrs h.state.pc) (sound1 h) head.second.ready
     (not head.second.err && may_execute csrs ((h.state.pc + 2) % 2 ^ 32)) (sound2 h)
     h.state.pc head.first.half (first_of_pair s h) head.second.half (second_of_pair s h) h.times.dummies counted
-    i.pc_low
-    (λ r. sound_is s h (c + 1) next_pc csrs regs h.state.pc head.first.err t i i.pc_even (f.err r)) f.half
+    i.good.pc_low
+    (λ r. sound_is s h (c + 1) next_pc csrs regs h.state.pc head.first.err t i i.good.pc_even (f.err r)) f.half
     (λ r. sound_is s h (c + 1) next_pc csrs regs ((h.state.pc + 2) % 2 ^ 32) head.second.err t i
-    (omega (arith, i.pc_even)) (g.err r)) g.half))
+    (omega (arith, i.good.pc_even)) (g.err r)) g.half))
 
 -- ---- the admission
 

@@ -1,15 +1,13 @@
 -- The portions of an item that is admitted: they are all to come.
-use Rattle.std.proofs.Common.{◌≡◌, ℕ, ◌+◌, ◌<◌, ◌≤◌, ◌⊎◌, inl, inr, Bool, true, false, List, [], ◌∷◌, Option, Some}
+use Rattle.std.proofs.Common.{◌≡◌, ℕ, ◌+◌, ◌<◌, ◌≤◌, ◌⊎◌, inl, inr, Bool, true, false, List, ◌∷◌, Option, Some}
 use Rattle.std.proofs.Common.{None, refl, ◌∙◌, arith}
 use Rattle.std.specs.Prelude.{◌==◌, if◌then◌else◌}
-use Rattle.std.proofs.lemmas.Bool.{lt-leb}
 use Rattle.ibx_isa.specs.declared.insn.Insn.{Insn}
 use Rattle.ibx_isa.specs.declared.insn.Insn.TheVariants.{Lui, Auipc, Jal, Jalr, Branch, Load, Store, AluImm, Alu}
 use Rattle.ibx_isa.specs.declared.insn.Insn.TheVariants.{MulDiv, Csr, Fence, FenceI, Ecall, Ebreak, Mret, Wfi}
 use Rattle.ibx_isa.specs.declared.event.Access.{Access}
 use Rattle.ibx_isa.specs.declared.event.View.{View}
 use Rattle.ibx_bus.specs.Port.{PortState}
-use Rattle.ibx_bus.specs.PortTimes.{answer_time, grant_time}
 use Rattle.ibx_bus.proofs.Ports.{Idle}
 use Rattle.ibx_plan.specs.declared.site.Wait.{Wait}
 use Rattle.ibx_lsu.specs.declared.unit.Lsu.{Lsu}
@@ -22,13 +20,12 @@ use Rattle.ibx_time.specs.Controls.{Ctl, is_fixed}
 use Rattle.ibx_time.specs.Items.{Item, Portions, NoPortion, One, OneBad, Two, TwoBad, branching, dummy_item, is_turned}
 use Rattle.ibx_time.specs.Items.{item_of, parcels_of, portions_for, plain, retired_item, trap_parcels}
 use Rattle.ibx_time.specs.Requests.{Transaction}
-use Rattle.ibx_time.specs.Times.{portion_grant, portion_issue}
-use Rattle.ibx_time.specs.Memories.{Write, access_of, portion_sent, sent_by, sent_with, write_of, writes_with}
-use Rattle.ibx_time.specs.Memories.{written_by}
+use Rattle.ibx_time.specs.Memories.{access_of, portion_sent, sent_by, sent_with}
 use Rattle.ibx_time.specs.History.{Story, access_at, access_by, choice_at, item_at, item_by, taken, view_with}
 use Rattle.ibx_time.specs.BusLines.{wires_at}
 use Rattle.ibx_time_invariant.proofs.Stages.{LsAt, new, quiet, reaches}
-use Rattle.ibx_time_invariant.proofs.Ties.{Grows}
+use Rattle.ibx_time_invariant.proofs.DataWires.{to_come}
+use Rattle.ibx_time.proofs.Logs.{late_issue}
 
 -- ---- a portion is of an access
 
@@ -146,58 +143,7 @@ pub starts_portion : (s : Setup) (t : ℕ) (h : Story) (ls : Lsu) (p : PortState
     → Idle s.plan.dwaits h.times.made p → LsAt s t h (t + 1) ls p
 starts_portion s t h ls p l i = portion_by s t h ls p (has_access s t h) (first_portion (item_at s t h).portions) l i
 
--- ---- the writes
-
--- a portion is issued and granted in the item's first cycle or later, and written then
-late_issue : (ws : List Wait) (n e : ℕ) (second : Bool) → e ≤ portion_issue ws n e second
-unfolding answer_time grant_time
-late_issue ws n e false = omega arith
-late_issue ws n e true = omega arith
-
--- the grant of a portion isn't before the item enters
-late_grant : (ws : List Wait) (n e : ℕ) (second : Bool) → e ≤ portion_grant ws n e second
-unfolding grant_time
-late_grant ws n e second = omega (arith, late_issue ws n e second)
-
--- so neither portion of a store is written before its item enters
-late_write : (ws : List Wait) (n e : ℕ) (a : Access) (second : Bool) → e ≤ (write_of ws n e a second).time
-late_write ws n e a false = late_grant ws n e false
-late_write ws n e a true = late_grant ws n e true
-
--- so the writes that are new are at that cycle or later
-grows_by : (portions : Portions) (store : Bool) (first second : Write) (ws : List Write) (e : ℕ) → e ≤ first.time
-    → e ≤ second.time → Grows ws (written_by portions store first second ws) e
-unfolding written_by
-grows_by NoPortion false first second ws e a b = record { front = []; joined = refl; late = tt }
-grows_by One false first second ws e a b = record { front = []; joined = refl; late = tt }
-grows_by OneBad false first second ws e a b = record { front = []; joined = refl; late = tt }
-grows_by Two false first second ws e a b = record { front = []; joined = refl; late = tt }
-grows_by TwoBad false first second ws e a b = record { front = []; joined = refl; late = tt }
-grows_by NoPortion true first second ws e a b = record { front = []; joined = refl; late = tt }
-grows_by One true first second ws e a b = record { front = first ∷ []; joined = refl; late = (a, tt) }
-grows_by OneBad true first second ws e a b = record { front = first ∷ []; joined = refl; late = (a, tt) }
-grows_by Two true first second ws e a b = record { front = second ∷ first ∷ []; joined = refl; late = (b, (a, tt)) }
-grows_by TwoBad true first second ws e a b = record { front = second ∷ first ∷ []; joined = refl; late = (b, (a, tt)) }
-
--- an item only adds to the log, and nothing before it enters; without an access it adds nothing
-grows_with : (waits : List Wait) (n e : ℕ) (portions : Portions) (o : Option Access) (ws : List Write)
-    → Grows ws (writes_with waits n e portions o ws) e
-grows_with waits n e portions None ws = record { front = []; joined = refl; late = tt }
-grows_with waits n e portions (Some a) ws =
-    grows_by portions a.store (write_of waits n e a false) (write_of waits n e a true) ws e
-    (late_write waits n e a false) (late_write waits n e a true)
-
--- so the log of a story grows by writes of the next cycle or later
-pub grows : (s : Setup) (t : ℕ) (h : Story) → Grows h.writes (taken s t h).writes (t + 1)
-unfolding taken
-grows s t h = grows_with s.plan.dwaits h.times.made (t + 1) (item_at s t h).portions (access_at s t h) h.writes
-
 -- ---- the wires of the cycle before
-
--- a transaction that is issued later isn't on the wires
-unseen : (x : Transaction) (sent : List Transaction) (c : ℕ) → c < x.issue → wires_at (x ∷ sent) c ≡ wires_at sent c
-unfolding wires_at
-unseen x sent c l = rw (lt-leb x.issue c l) refl
 
 -- a portion's transaction isn't issued before the item enters
 late_sent : (ws : List Wait) (n e : ℕ) (a : Access) (second : Bool) → e ≤ (portion_sent ws n e a second).issue
@@ -209,10 +155,10 @@ wires_by : (portions : Portions) (first second : Transaction) (sent : List Trans
     → c < second.issue → wires_at (sent_by portions first second sent) c ≡ wires_at sent c
 unfolding sent_by
 wires_by NoPortion first second sent c a b = refl
-wires_by One first second sent c a b = unseen first sent c a
-wires_by OneBad first second sent c a b = unseen first sent c a
-wires_by Two first second sent c a b = unseen second (first ∷ sent) c b ∙ unseen first sent c a
-wires_by TwoBad first second sent c a b = unseen second (first ∷ sent) c b ∙ unseen first sent c a
+wires_by One first second sent c a b = to_come first sent c a
+wires_by OneBad first second sent c a b = to_come first sent c a
+wires_by Two first second sent c a b = to_come second (first ∷ sent) c b ∙ to_come first sent c a
+wires_by TwoBad first second sent c a b = to_come second (first ∷ sent) c b ∙ to_come first sent c a
 
 -- an item that enters in the next cycle shows nothing on the wires of this one
 wires_with : (waits : List Wait) (n c : ℕ) (portions : Portions) (o : Option Access) (sent : List Transaction)

@@ -30,7 +30,8 @@ use Rattle.ibx_isa.specs.Portions.{size_of}
 use Rattle.ibx_time.specs.Settings.{Settings, Setup, lines_in, settings_of}
 use Rattle.ibx_time.specs.Controls.{Ctl, is_fixed}
 use Rattle.ibx_time.specs.Items.{Item, branching, is_turned, item_of, parcels_of, plain, retired_item}
-use Rattle.ibx_time_invariant.proofs.ArchSide.{ArchFetches, fetched_word, parcels_by}
+use Rattle.ibx_time_invariant.proofs.ArchSide.{ArchFetches, fetched_word}
+use Rattle.ibx_time.proofs.Answered.{parcels_by}
 use Rattle.ibx_csr.specs.Modes.{may_wait}
 use Rattle.ibx_csr.specs.Bits.{is_control_at}
 
@@ -282,7 +283,8 @@ arch_fetches s c h first second i =
           ∙ ap (fetched_parcels h.state.pc)
           (same_fetch h.state h.state.stands first second ∙ fetch_is h.state first second)
           ∙ parcels_are (is_sound h.state.csrs h.state.memory.ram h.state.pc) (is_long first)
-          (is_sound h.state.csrs h.state.memory.ram ((h.state.pc + 2) % 2 ^ 32)) h.state.pc first second i.pc_low refl;
+          (is_sound h.state.csrs h.state.memory.ram ((h.state.pc + 2) % 2 ^ 32)) h.state.pc first second
+          i.good.pc_low refl;
       word = after_word here h.state.stands lines (fetch here first second)
           ∙ ap fetched_word (same_fetch h.state h.state.stands first second);
     }

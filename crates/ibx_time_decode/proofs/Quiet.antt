@@ -68,8 +68,8 @@ pub arch_quiet : (s : Setup) → ArchQuiet s
 unfolding ra_of rb_of
 arch_quiet s h c next_pc id csrs regs t i = (
   coded_in regs h.state.regs (ra_of id) t.regs_are (read1_low (nat_lt id.phase 4) (row_of id) (named_row id))
-      i.regs_count i.regs_low,
+      i.good.regs_count i.good.regs_low,
   coded_in regs h.state.regs (rb_of id) t.regs_are (read2_low (nat_lt id.phase 4) (row_of id) (named_row id))
-      i.regs_count i.regs_low,
+      i.good.regs_count i.good.regs_low,
   no_glitch csrs t.complemented,
 )

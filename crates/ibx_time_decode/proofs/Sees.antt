@@ -55,6 +55,7 @@ use Rattle.ibx_time_decode.proofs.SeesStage.{Fields, IsHeld, held_good, in_stage
 use Rattle.ibx_id.specs.declared.stage.IdState.{IdState}
 use Rattle.ibx_id.specs.Turns.{is_some_cause}
 use Rattle.ibx_core.specs.Sights.{cause_of, cost_by, is_fixed, is_real, ra_of, rb_of, read_by, row_of, stage_word}
+use Rattle.ibx_time_decode.proofs.Admits.{item_is}
 use Rattle.ibx_core.specs.Sights.{row_cause, access_by, refused_by}
 
 -- ---- the phase of the stage
@@ -107,10 +108,10 @@ unfolding ra_of rb_of
 operands_are s limit t h c next_pc id csrs regs insn ti st ph k ne =
     let low : nat_lt id.phase 4 ≡ true = lt-ltb id.phase 4 (phase_low s limit t h c id.phase ph ne) in (
       operand h.state regs (ra_of id) ti.regs_are (read1_low (nat_lt id.phase 4) (row_of id) (named_row id))
-          st.regs_count st.regs_low st.zero_is
+          st.good.regs_count st.good.regs_low st.good.zero_is
           ∙ ap (reg h.state) (read_is source1 (nat_lt id.phase 4) (row_of id) insn low k),
       operand h.state regs (rb_of id) ti.regs_are (read2_low (nat_lt id.phase 4) (row_of id) (named_row id))
-          st.regs_count st.regs_low st.zero_is
+          st.good.regs_count st.good.regs_low st.good.zero_is
           ∙ ap (reg h.state) (read_is source2 (nat_lt id.phase 4) (row_of id) insn low k),
     )
 
@@ -271,12 +272,6 @@ view_is : (s : Setup) (h : Story) (f : Fetched) → fetched s h ≡ f
     → view_with s h (brought_parcels s h) ≡ view_fetched s h f
 view_is s h f e = ap (λ x. view_of x.event) (step_is s h) ∙ ap (view_fetched s h) e
 
--- the item, the phase of its trap and its access, by what is admitted
-item_there : (s : Setup) (t : ℕ) (h : Story) (kind : Kind) → kind_of s t h ≡ kind
-    → item_at s t h ≡ item_by s h (choice_by s h kind)
-unfolding item_at
-item_there s t h kind e = ap (λ k. item_by s h (choice_by s h k)) e
-
 -- the phase of an item's trap is that in the view of its choice
 phase_there : (s : Setup) (t : ℕ) (h : Story) (kind : Kind) → kind_of s t h ≡ kind
     → trap_phase s t h ≡ view_phase (view_by s h (choice_by s h kind))
@@ -408,12 +403,12 @@ module _ (s : Setup) (limit t : ℕ) (h : Story) (c next_pc : ℕ) (id : IdState
             let same : insn ≡ MulDiv op rd rs1 rs2 = same_insn insn (MulDiv op rd rs1 rs2) e in
             subst (λ x. Operands s t h (eyes_at (Some x) ea eb true fix id csrs (lines_in (settings_of s) c) s.mul) id
             op rs1 rs2) (sym same)
-            (md_operands s t h c word size ea eb n fix id csrs sound ti.values_are ti.ctl st.ram dec fixes_ op rd rs1
-            rs2 kind
+            (md_operands s t h c word size ea eb n fix id csrs sound ti.values_are ti.ctl st.good.ram_is dec fixes_ op rd
+            rs1 rs2 kind
             (λ ne. operands_are s limit t h c next_pc id csrs regs (MulDiv op rd rs1 rs2) ti st ph (row ∙ e) ne)
             (subst (λ x. IsRow s t h x word (operands (state_there h) x)
             (execute (state_there h) x word size (lines_in (settings_of s) h.state.stands))) same r)),
-        way_of s t h c word size ea eb n fix id csrs sound ti.values_are ti.ctl st.ram dec fixes_ insn reads r,
+        way_of s t h c word size ea eb n fix id csrs sound ti.values_are ti.ctl st.good.ram_is dec fixes_ insn reads r,
       )
 
   -- a word that is no instruction is seen as a trap, and any other by its row
@@ -425,13 +420,13 @@ module _ (s : Setup) (limit t : ℕ) (h : Story) (c next_pc : ℕ) (id : IdState
   unfolding finished view_of
   word_sees word size k e None d kind sound row v =
       none_sees s t h c id ea eb fix csrs (view_done h word None (illegal (state_there h) word)) k
-      (item_there s t h AnInstruction k ∙ ap (item_of (settings_of s) h.times.ctl) v)
+      (item_is s t h AnInstruction k ∙ ap (item_of (settings_of s) h.times.ctl) v)
       (phase_there s t h AnInstruction k ∙ ap (λ x. view_phase (Some x)) v) refl refl
   word_sees word size k e (Some insn) d kind sound row v =
       row_sees word size insn k kind sound row (record {
         kind = k;
         decoded = d;
-        item = item_there s t h AnInstruction k ∙ ap (item_of (settings_of s) h.times.ctl) v;
+        item = item_is s t h AnInstruction k ∙ ap (item_of (settings_of s) h.times.ctl) v;
         phase = phase_there s t h AnInstruction k ∙ ap (λ x. view_phase (Some x)) v;
         access = access_there s t h AnInstruction k
             ∙ ap (λ w. access_of h.state (instruction_of w))
@@ -448,7 +443,7 @@ module _ (s : Setup) (limit t : ℕ) (h : Story) (c next_pc : ℕ) (id : IdState
       let f : Fields (Unsound addr) h.state.pc id = fields k (Unsound addr) e w in
       to_eyes None true (no_row h.state.pc addr id (held_there (Unsound addr) e) f) (real_there id f.valid f.kind)
       (none_sees s t h c id ea eb fix csrs (view_done h 0 None (trap (state_there h) 1 addr 0)) k
-      (item_there s t h AnInstruction k ∙ ap (item_of (settings_of s) h.times.ctl) v)
+      (item_is s t h AnInstruction k ∙ ap (item_of (settings_of s) h.times.ctl) v)
       (phase_there s t h AnInstruction k ∙ ap (λ x. view_phase (Some x)) v) refl refl)
   fetched_sees k (Instruction word size) e =
       let v : view_with s h (brought_parcels s h) ≡ view_fetched s h (Instruction word size) =
@@ -482,7 +477,7 @@ module _ (s : Setup) (limit t : ℕ) (h : Story) (c next_pc : ℕ) (id : IdState
       let row : row_of id ≡ None = row_if id.valid (nat_lt id.kind 2) (id.fault == 0) (instruction_of (stage_word id))
       false item.valid (le-ltb id.kind 2 (omega (arith, kind))) fault in
       let real : is_real id ≡ false = ap₂ (λ b n. b && n == 0) item.valid kind in
-      let i = item_there s t h (AnInterrupt number) k
+      let i = item_is s t h (AnInterrupt number) k
       ∙ first_of_three (view_with s h (Interrupt number)).kind _ _ _ (interrupt_view number) in
       let v : Eyes = eyes_at None ea eb false fix id csrs (lines_in (settings_of s) c) s.mul in
       to_eyes None false row real (
@@ -512,7 +507,7 @@ module _ (s : Setup) (limit t : ℕ) (h : Story) (c next_pc : ℕ) (id : IdState
       (lt-ltb id.kind 2 (omega (arith, kind))) fault ∙ ap instruction_of there in
       let real : is_real id ≡ false = ap₂ (λ b n. b && n == 0) item.valid kind in
       let fixed : fix ≡ true = ap (λ n. n == 1 || is_fixed csrs) kind in
-      let i : item_at s t h ≡ item_by s h None = item_there s t h ADummy k in
+      let i : item_at s t h ≡ item_by s h None = item_is s t h ADummy k in
       let phase : trap_phase s t h ≡ 0 = phase_there s t h ADummy k in
       let o : Option Insn = instruction_of (dummy_word lfsr) in
       let v : Eyes = eyes_at o ea eb false fix id csrs (lines_in (settings_of s) c) s.mul in

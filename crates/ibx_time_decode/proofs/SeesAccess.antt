@@ -5,7 +5,7 @@ use Rattle.std.proofs.lemmas.Bool.{ne_eqb}
 use Rattle.ibx_isa.specs.declared.event.Access.{Access}
 use Rattle.ibx_csr.specs.declared.csrs.Csrs.{Csrs}
 use Rattle.ibx_csr.specs.Fields.{values}
-use Rattle.ibx_csr.specs.Values.{CsrValues, cfg_bytes, counters_after}
+use Rattle.ibx_csr.specs.Values.{CsrValues, cfg_bytes, sec_of, counters_after}
 use Rattle.ibx_isa.specs.Portions.{portion_addr, portion_size}
 use Rattle.ibx_pmp.specs.declared.protection.AccessKind.{AccessKind}
 use Rattle.ibx_pmp.specs.declared.protection.AccessKind.TheVariants.{Read, Write}
@@ -136,7 +136,7 @@ pub denied_is : (s : Setup) (h : Story) (csrs : Csrs) (n : ℕ) (w : Access) (ki
     → is_denied csrs w second ≡ is_refused (state_there h).csrs w.addr w.size kind second
 unfolding counters_after is_denied allowed
 denied_is s h csrs n w kind second e k =
-    ap (λ (v : CsrValues). not (allowed (cfg_bytes v) v.pmpaddr (portion_addr w.addr second)
+    ap (λ (v : CsrValues). not (allowed (sec_of v) (cfg_bytes v) v.pmpaddr (portion_addr w.addr second)
     (portion_size w.addr w.size second) (if w.store then Write else Read) (access_machine v))) e
     ∙ ap (λ k. is_refused (state_there h).csrs w.addr w.size k second) k
 

@@ -9,7 +9,6 @@ use Rattle.ibx_secded.specs.Code.{encode_of, payload_of}
 use Rattle.ibx_secded.proofs.Laws.{payload_of-encode}
 use Rattle.ibx_isa.specs.declared.insn.Insn.{Insn}
 use Rattle.ibx_bits.specs.Bytes.{bytes_number}
-use Rattle.ibx_elf.specs.Ram.{ram_has}
 use Rattle.ibx_arch.specs.declared.fetched.Fetched.{Fetched}
 use Rattle.ibx_arch.specs.declared.fetched.Fetched.TheVariants.{Unsound, Instruction}
 use Rattle.ibx_arch.specs.Memory.{Memory, read_byte, read_bytes}
@@ -17,9 +16,10 @@ use Rattle.ibx_arch.specs.State.{State, reg}
 use Rattle.ibx_decoder.specs.Instructions.{instruction_of}
 use Rattle.ibx_isa.specs.Lengths.{is_long}
 use Rattle.ibx_id.specs.declared.stage.IdState.{IdState}
+use Rattle.ibx_time.proofs.States.{read_low_byte}
 use Rattle.ibx_time_invariant.proofs.Stages.{fault_of}
 use Rattle.ibx_time_invariant.proofs.ArchSide.{fetched_word}
-use Rattle.ibx_time_decode.proofs.Fetches.{fetch_by}
+use Rattle.ibx_time_decode.proofs.Fetches.{fetch_by, long_word}
 use Rattle.ibx_core.specs.Sights.{row_of, stage_word}
 
 -- ---- halfwords
@@ -29,18 +29,10 @@ pair_low : (f : ℕ → ℕ) → f 0 < 256 → f 1 < 256 → bytes_number f 2 < 
 unfolding bytes_number
 pair_low f a b = omega (arith, a, b)
 
--- a byte that is read is below 256, since it is 0 outside RAM
-byte_low : (m : Memory) (a : ℕ) → ((x : ℕ) → m.byte x < 256) → read_byte m a < 256
-byte_low m a h = by (ram_has m.ram a) (m.byte a) (h a)
-  where
-    by : (b : Bool) (v : ℕ) → v < 256 → (if b then v else 0) < 256
-    by true v l = l
-    by false v l = omega arith
-
 -- so a parcel that memory gives is a halfword
 pub parcel_low : (m : Memory) (addr : ℕ) → ((x : ℕ) → m.byte x < 256) → read_bytes m addr 2 < 2 ^ 16
-parcel_low m addr h = pair_low (λ k. read_byte m ((addr + k) % 2 ^ 32)) (byte_low m ((addr + 0) % 2 ^ 32) h)
-    (byte_low m ((addr + 1) % 2 ^ 32) h)
+parcel_low m addr h = pair_low (λ k. read_byte m ((addr + k) % 2 ^ 32)) (read_low_byte m ((addr + 0) % 2 ^ 32) h)
+    (read_low_byte m ((addr + 1) % 2 ^ 32) h)
 
 -- ---- what is fetched, as the stage holds it
 
@@ -62,10 +54,6 @@ fault_some false = refl
 short_word : (word : ℕ) → is_long word ≡ false → word < 2 ^ 16 → in_stage word ≡ word
 short_word word e l = ap (λ b. if b then word else word % 2 ^ 16) e ∙ mod-eq_of_lt l
 
--- a word is long just where its first parcel is, whatever the second is
-long_pair : (first second : ℕ) → is_long (first + 2 ^ 16 * second) ≡ is_long first
-long_pair first second = ap (λ n. n == 3) (let e : (first + 2 ^ 16 * second) % 4 ≡ first % 4 = omega arith in e)
-
 -- so what is fetched is held
 pub held_good : (a long b : Bool) (pc p1 p2 : ℕ) → p1 < 2 ^ 16 → is_long p1 ≡ long
     → IsHeld pc (fetch_by a long b pc p1 p2)
@@ -73,7 +61,7 @@ held_good false long b pc p1 p2 k e = fault_some (pc == pc)
 held_good true false b pc p1 p2 k e = short_word p1 e k
 held_good true true false pc p1 p2 k e = fault_some ((pc + 2) % 2 ^ 32 == pc)
 held_good true true true pc p1 p2 k e =
-    ap (λ x. if x then p1 + 2 ^ 16 * p2 else (p1 + 2 ^ 16 * p2) % 2 ^ 16) (long_pair p1 p2 ∙ e)
+    ap (λ x. if x then p1 + 2 ^ 16 * p2 else (p1 + 2 ^ 16 * p2) % 2 ^ 16) (long_word p1 p2 ∙ e)
 
 -- ---- the row
 

@@ -15,7 +15,7 @@ use Rattle.ibx_prefetch.specs.declared.buffer.Prefetch.{Prefetch}
 use Rattle.ibx_prefetch.specs.Buffer.{entry_of, pushed, received}
 use Rattle.ibx_prefetch.specs.declared.buffer.WordAns.{WordAns}
 use Rattle.ibx_prefetch.proofs.Drops.{received-none}
-use Rattle.ibx_time_machine.specs.System.{put_lines, put_tags}
+use Rattle.ibx_time_machine.specs.Words.{put_lines, put_tags}
 use Rattle.ibx_icache.specs.WordPort.{after_answer as port_answered, answer_of, entry_by, filling_of, gone_by, is_hit}
 use Rattle.ibx_icache.specs.WordPort.{is_wrong, looked, marked, rsp_entry, slot_of as place_of, stores_of, victim_of}
 use Rattle.ibx_icache.specs.Doing.{answers_by, doing_of, stores_by}
@@ -24,7 +24,8 @@ use Rattle.ibx_icache.specs.declared.doing.Doing.{Doing}
 use Rattle.ibx_icache.specs.declared.doing.Doing.TheVariants.{Answers, AsksBare, AsksFirst, AsksSecond, AwaitsBare}
 use Rattle.ibx_icache.specs.declared.doing.Doing.TheVariants.{AwaitsFirst, AwaitsSecond, Looks, Rests}
 use Rattle.ibx_time_invariant.proofs.Caches.{Cleared}
-use Rattle.ibx_time_invariant.proofs.FetchSide.{FetchAnswers, ans_of, look_at, receives, seen_by}
+use Rattle.ibx_time_invariant.proofs.FetchSide.{FetchAnswers, ans_of, receives, seen_by}
+use Rattle.ibx_time_machine.specs.Words.{look_at}
 use Rattle.ibx_time_invariant.proofs.Fetches.{Count, FetchAt, coming, dropped, entry_in, rest, word_entry}
 use Rattle.ibx_time_invariant.proofs.Links.{Asked, Cached, Link, Mid, Work, bare_asks, bare_waits, first_asks, first_waits}
 use Rattle.ibx_time_invariant.proofs.Links.{free, idle, last, looks, pending, second_asks, second_waits}
@@ -202,7 +203,7 @@ and_second true b h = h
 and_second false b h = let no_ : false ≡ true = h in cc
 
 -- a cached request has its walk behind it
-walked_of : (ss : List Switch) (fs : List ℕ) (t : ℕ) → is_cached ss fs t ≡ true → is_walked fs t ≡ true
+pub walked_of : (ss : List Switch) (fs : List ℕ) (t : ℕ) → is_cached ss fs t ≡ true → is_walked fs t ≡ true
 unfolding is_cached
 walked_of ss fs t h = and_second (enabled_at ss t) (is_walked fs t) h
 

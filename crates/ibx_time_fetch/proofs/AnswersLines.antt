@@ -20,7 +20,7 @@ use Rattle.ibx_time.specs.Requests.{transaction, victim, victim_by}
 use Rattle.ibx_time.specs.Settings.{Settings, Setup, settings_of}
 use Rattle.ibx_prefetch.specs.declared.buffer.WordAns.{WordAns}
 use Rattle.ibx_prefetch.specs.Buffer.{entry_of}
-use Rattle.ibx_time_machine.specs.System.{put_lines, put_tags}
+use Rattle.ibx_time_machine.specs.Words.{put_lines, put_tags}
 use Rattle.ibx_icache.specs.declared.doing.Doing.TheVariants.{Answers, AsksBare, AsksFirst, AsksSecond, AwaitsBare}
 use Rattle.ibx_icache.specs.declared.doing.Doing.TheVariants.{AwaitsFirst, AwaitsSecond, Looks, Rests}
 use Rattle.ibx_icache.specs.WordPort.{entry_by, found_word, gone_by, half_of, is_hit, is_wrong, looked, marked}
@@ -31,7 +31,7 @@ use Rattle.ibx_icache.specs.declared.lookup.Look.{Look}
 use Rattle.ibx_icache.specs.declared.writes.Filling.{Filling}
 use Rattle.ibx_icache.specs.declared.doing.Doing.{Doing}
 use Rattle.ibx_time_invariant.proofs.Caches.{CacheAt}
-use Rattle.ibx_time_invariant.proofs.FetchSide.{look_at}
+use Rattle.ibx_time_machine.specs.Words.{look_at}
 use Rattle.ibx_time_invariant.proofs.Fetches.{entry_in, is_unmapped, word_in}
 use Rattle.ibx_time_invariant.proofs.Links.{Cached, Wired, Work, bare_asks, bare_waits, due, entry0, filled, first_asks}
 use Rattle.ibx_time_invariant.proofs.Links.{first_waits, held, last, line_base, looks, second_asks, second_waits}

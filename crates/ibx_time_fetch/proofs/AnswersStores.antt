@@ -10,14 +10,16 @@ use Rattle.ibx_time_invariant.proofs.Caches.{CacheAt, Cleared, IsCode, IsLog, Wa
 use Rattle.ibx_time_invariant.proofs.Fetches.{is_unmapped, word_in}
 use Rattle.ibx_time_invariant.proofs.Quiets.{word_low}
 use Rattle.ibx_time_invariant.proofs.Ties.{IsPlaced}
-use Rattle.ibx_time_machine.specs.System.{put_lines, put_tags}
+use Rattle.ibx_time_machine.specs.Words.{put_lines, put_tags}
 use Rattle.ibx_icache.specs.declared.writes.Filling.TheVariants.{Clears, Nothing, Stores}
 use Rattle.ibx_icache.specs.WordPort.{slot_of as place_of}
 use Rattle.ibx_icache.specs.declared.writes.Filling.{Filling}
 use Rattle.ibx_time.specs.Memories.{Write}
 use Rattle.ibx_time.specs.Requests.{Fill, is_walked, last_fill, line_of, none_between, slot_of}
 use Rattle.ibx_time.specs.Settings.{Setup}
-use Rattle.ibx_time_fetch.proofs.PortsLogs.{between_broken, between_none, log_more, walked_till}
+use Rattle.ibx_time_fetch.proofs.PortsLogs.{between_none, some_fill, walked_till}
+use Rattle.ibx_time.proofs.Walks.{log_more}
+use Rattle.ibx_time_invariant.proofs.Marks.{broken}
 use Rattle.ibx_time_fetch.proofs.AnswersCache.{empty_tag}
 
 -- ---- the walk clears two tags
@@ -91,10 +93,6 @@ cleared_by walk slot tag word0 word1 tags false u e k =
     record { lower = λ less. absurd (omega (arith, more, less)); upper = λ less. absurd (omega (arith, more, less)) }
 
 -- ---- a line is stored in cycle c
-
--- a fill that there is, and its slot
-some_fill : (a b : Fill) → Some a ≡ Some b → a ≡ b
-some_fill a b e = cc
 
 -- the slot of a line in a way is the place where the port writes it
 slot_is : (a : ℕ) (way : Bool) → slot_of (line_of a) way ≡ place_of a way
@@ -268,6 +266,6 @@ stores_ended fs t c walk fence less (walks f a) h none_ =
     omega (arith, less, a.walk_is, walked_till fs t (head_before fs t c a.log none_) h)
 stores_ended fs t c walk fence less (restarts old at f a) h none_ =
     let broken : none_between fs t (c + 1) ≡ false =
-    ap (λ v. none_between v t (c + 1)) at ∙ between_broken old t c (omega (arith, less)) in
+    ap (λ v. none_between v t (c + 1)) at ∙ broken old t c (omega (arith, less)) in
     let no_ : true ≡ false = sym none_ ∙ broken in
     cc

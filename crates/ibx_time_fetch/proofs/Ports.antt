@@ -1,16 +1,14 @@
 -- The ports' part of a cycle: the grant, which reads memory, and the walk.
 use Rattle.std.proofs.Common.{◌≡◌, ℕ, suc, ◌+◌, ◌-◌, ◌*◌, ◌/◌, ◌%◌, ◌^◌, ◌<◌, ◌≤◌, ◌⊎◌, min, Bool, true, false, List}
-use Rattle.std.proofs.Common.{[], ◌∷◌, refl, sym, ap, ◌∙◌, inl, inr, arith, subst, nat_lt, slice_index, if◌then◌else◌}
+use Rattle.std.proofs.Common.{◌∷◌, refl, sym, ap, ◌∙◌, inl, inr, arith, subst, nat_lt, slice_index, if◌then◌else◌}
 use Rattle.std.proofs.lemmas.Bool.{cases_lt, cases_eq, ltb-true, ltb-false}
-use Rattle.ibx_plan.specs.declared.site.Wait.{Wait}
 use Rattle.ibx_secded.specs.Code.{encode_of}
-use Rattle.ibx_arch.specs.Memory.{Memory, image_memory, with_bytes}
+use Rattle.ibx_arch.specs.Memory.{Memory, image_memory}
 use Rattle.ibx_bus.specs.Memory.{MemoryState, error_of, answered_word}
 use Rattle.ibx_bus.specs.Port.{PortState, grants, port_next}
 use Rattle.ibx_bus.specs.PortTimes.{grant_time}
 use Rattle.ibx_isa.specs.Wires.{fetch_wires, no_request}
-use Rattle.ibx_bus.proofs.Ports.{Granted, Grants, Waits, free_rests, free_starts, granted_goes, moved, no_grant}
-use Rattle.ibx_bus.proofs.Ports.{waiting_goes}
+use Rattle.ibx_bus.proofs.Ports.{Granted, Grants, free_rests, granted_goes, moved, no_grant}
 use Rattle.ibx_time.specs.Settings.{Setup, settings_of}
 use Rattle.ibx_time.specs.Requests.{Fill, Past, Switch, first_answer, first_grant, last_fill, made, second_grant}
 use Rattle.ibx_time.specs.Streams.{Stream, last_of, past}
@@ -24,41 +22,22 @@ use Rattle.ibx_icache.specs.declared.port.WordPort.{WordPort}
 use Rattle.ibx_icache.specs.declared.doing.Doing.{Doing}
 use Rattle.ibx_time_invariant.proofs.Fetches.{is_unmapped, word_in}
 use Rattle.ibx_time_invariant.proofs.Caches.{CacheAt, Cleared, IsLog, WalkAt, WalkMid, restarts, starts, tag_of, walks}
-use Rattle.ibx_time_invariant.proofs.Links.{Ask, Cached, Link, Mid, Missed, Reads, Wired, Work, bare_asks, bare_waits, due}
-use Rattle.ibx_time_invariant.proofs.Links.{filled, first_asks, first_waits, free, held, idle, last, line_base, looks}
+use Rattle.ibx_time_invariant.proofs.Links.{Cached, Link, Mid, Missed, Reads, Wired, Work, bare_asks, bare_waits}
+use Rattle.ibx_time_invariant.proofs.Links.{filled, first_asks, first_waits, free, idle, last, line_base, looks}
 use Rattle.ibx_time_invariant.proofs.Links.{pending, second_asks, second_waits}
 use Rattle.ibx_time_invariant.proofs.Ties.{IsPlaced}
 use Rattle.ibx_time_invariant.proofs.FetchSide.{FetchPorts, wires_in}
-use Rattle.ibx_time_fetch.proofs.PortsLogs.{log_more, starts_before, tag_broken, tag_more}
+use Rattle.ibx_time_fetch.proofs.PortsLogs.{tag_broken, tag_more}
+use Rattle.ibx_time.proofs.Walks.{log_more, starts_before}
 use Rattle.ibx_memory.specs.Coded.{HoldsMemory}
+use Rattle.ibx_time_invariant.proofs.Quiets.{image_ram}
+use Rattle.ibx_time_invariant.proofs.DataWires.{ask}
+use Rattle.ibx_icache.proofs.States.{doing-state}
 use Rattle.ibx_memory.proofs.Coded.{error_is, word_is}
 
 -- ---- the range of RAM
 
--- memory keeps its range
-memory_ram : (memory : Memory) (ws : List Write) (c : ℕ) → (memory_at memory ws c).ram ≡ memory.ram
-unfolding memory_at with_bytes
-memory_ram memory [] c = refl
-memory_ram memory (w ∷ ws) c =
-    elim (nat_lt w.time c) as (λ b. (if b then with_bytes (memory_at memory ws c) w.addr w.from w.to w.value
-    else memory_at memory ws c).ram ≡ memory.ram) [
-      | true ↦ memory_ram memory ws c
-      | false ↦ memory_ram memory ws c
-    ]
-
--- memory has the range of the image's RAM at any time
-image_ram : (s : Setup) (ws : List Write) (c : ℕ) → (memory_at (image_memory s.image) ws c).ram ≡ s.image.ram
-unfolding image_memory
-image_ram s ws c = memory_ram (image_memory s.image) ws c
-
 -- ---- what a grant reads
-
--- a request that is asked for is granted now or waits
-ask : (ws : List Wait) (n x c : ℕ) (err : Bool) (word : ℕ) (p : PortState) → Ask ws n x c p
-    → Grants ws n x err word c p ⊎ Waits ws n x err word c p
-ask ws n x c err word p (due e f) =
-    subst (λ v. Grants ws n v err word c p ⊎ Waits ws n v err word c p) (sym e) (free_starts ws n err word c p f)
-ask ws n x c err word p (held i) = waiting_goes ws n x err word c p i
 
 -- the word that is read in the grant cycle
 reads : (s : Setup) (log : List Write) (c n x g a : ℕ) (m : MemoryState) (p : PortState) → IsPlaced s
@@ -193,19 +172,6 @@ walk_next fs c walk fence (restarts old at f a) =
 
 -- ---- the word port and its port of the bus
 
--- a state's number and back
-pub state_back : (g : Doing) → doing_of (state_of g) ≡ g
-unfolding doing_of
-state_back Rests = refl
-state_back Looks = refl
-state_back AsksFirst = refl
-state_back AwaitsFirst = refl
-state_back AsksSecond = refl
-state_back AwaitsSecond = refl
-state_back Answers = refl
-state_back AsksBare = refl
-state_back AwaitsBare = refl
-
 -- the word port after the grant and the walk
 abbrev put : Doing → ℕ → WordPort → WordPort
 put g v w = record w { c_state = state_of g; c_walk = v }
@@ -246,7 +212,7 @@ work_steps s log ss fs y t a c w p m tags lines v ok h at o f (bare_asks b g i k
     (answered_word m (fetch_wires (w.c_addr / 4 * 4))) p i) [
       | inl u ↦
           stepped s log ss fs y t a c w p m tags lines v AsksBare true g u.grant
-          (bare_waits b (state_back AwaitsBare)
+          (bare_waits b (doing-state AwaitsBare)
           (subst (λ z. Reads s log (made y) t (grant_time s.plan.iwaits (made y) t) z (c + 1)
           (moved true p (error_of m (fetch_wires (w.c_addr / 4 * 4)))
           (answered_word m (fetch_wires (w.c_addr / 4 * 4))))) here
@@ -254,20 +220,20 @@ work_steps s log ss fs y t a c w p m tags lines v ok h at o f (bare_asks b g i k
           (omega (arith, o.1)) refl u))
           (f y.fills k))
       | inr u ↦ stepped s log ss fs y t a c w p m tags lines v AsksBare false g u.grant
-          (bare_asks b (state_back AsksBare) u.then (f y.fills k))
+          (bare_asks b (doing-state AsksBare) u.then (f y.fills k))
     ]
   where
     same : (addr a : ℕ) → addr ≡ a → a % 4 ≡ 0 → addr / 4 * 4 ≡ a
     same addr a e h = omega arith
 work_steps s log ss fs y t a c w p m tags lines v ok h at o f (bare_waits b g i ne k) =
     stepped s log ss fs y t a c w p m tags lines v AwaitsBare false g (no_grant p)
-    (bare_waits b (state_back AwaitsBare)
+    (bare_waits b (doing-state AwaitsBare)
     (granted_goes s.plan.iwaits (made y) t (is_unmapped s a)
     (encode_of 32 7 (word_in s log (grant_time s.plan.iwaits (made y) t) a)) c (error_of m no_request)
     (answered_word m no_request) p i ne) (f y.fills k))
 work_steps s log ss fs y t a c w p m tags lines v ok h at o f (looks b n g now i k) =
     stepped s log ss fs y t a c w p m tags lines v Looks false g (no_grant p)
-    (looks b n (state_back Looks) (omega arith)
+    (looks b n (doing-state Looks) (omega arith)
     (free_rests s.plan.iwaits (made y) (error_of m no_request) (answered_word m no_request) p i) (f y.fills k))
 work_steps s log ss fs y t a c w p m tags lines v ok h at o f (first_asks b n g i k) =
     let here : w.c_addr / 8 * 8 ≡ line_base a = same w.c_addr a at in
@@ -275,7 +241,7 @@ work_steps s log ss fs y t a c w p m tags lines v ok h at o f (first_asks b n g 
     (answered_word m (fetch_wires (w.c_addr / 8 * 8))) p i) [
       | inl u ↦
           stepped s log ss fs y t a c w p m tags lines v AsksFirst true g u.grant
-          (first_waits b (missed_put s fs y t a (c + 1) v AwaitsFirst w n) (state_back AwaitsFirst)
+          (first_waits b (missed_put s fs y t a (c + 1) v AwaitsFirst w n) (doing-state AwaitsFirst)
           (subst (λ z. Reads s log (made y) (t + 1) (first_grant (settings_of s) y t) z (c + 1)
           (moved true p (error_of m (fetch_wires (w.c_addr / 8 * 8)))
           (answered_word m (fetch_wires (w.c_addr / 8 * 8))))) here
@@ -283,14 +249,14 @@ work_steps s log ss fs y t a c w p m tags lines v ok h at o f (first_asks b n g 
           (omega (arith, o.1)) refl u))
           (f y.fills k))
       | inr u ↦ stepped s log ss fs y t a c w p m tags lines v AsksFirst false g u.grant
-          (first_asks b (missed_put s fs y t a (c + 1) v AsksFirst w n) (state_back AsksFirst) u.then (f y.fills k))
+          (first_asks b (missed_put s fs y t a (c + 1) v AsksFirst w n) (doing-state AsksFirst) u.then (f y.fills k))
     ]
   where
     same : (addr a : ℕ) → addr ≡ a → addr / 8 * 8 ≡ 8 * (a / 8)
     same addr a e = omega arith
 work_steps s log ss fs y t a c w p m tags lines v ok h at o f (first_waits b n g i ne k) =
     stepped s log ss fs y t a c w p m tags lines v AwaitsFirst false g (no_grant p)
-    (first_waits b (missed_put s fs y t a (c + 1) v AwaitsFirst w n) (state_back AwaitsFirst)
+    (first_waits b (missed_put s fs y t a (c + 1) v AwaitsFirst w n) (doing-state AwaitsFirst)
     (granted_goes s.plan.iwaits (made y) (t + 1) (is_unmapped s (line_base a))
     (encode_of 32 7 (word_in s log (first_grant (settings_of s) y t) (line_base a))) c (error_of m no_request)
     (answered_word m no_request) p i ne) (f y.fills k))
@@ -300,7 +266,7 @@ work_steps s log ss fs y t a c w p m tags lines v ok h at o f (second_asks b n g
     (error_of m (fetch_wires (w.c_addr / 8 * 8 + 4))) (answered_word m (fetch_wires (w.c_addr / 8 * 8 + 4))) p i) [
       | inl u ↦
           stepped s log ss fs y t a c w p m tags lines v AsksSecond true g u.grant
-          (second_waits b (missed_put s fs y t a (c + 1) v AwaitsSecond w n) (state_back AwaitsSecond) e
+          (second_waits b (missed_put s fs y t a (c + 1) v AwaitsSecond w n) (doing-state AwaitsSecond) e
           (subst (λ z. Reads s log (suc (made y)) (first_answer (settings_of s) y t) (second_grant (settings_of s) y t)
           z (c + 1) (moved true p (error_of m (fetch_wires (w.c_addr / 8 * 8 + 4)))
           (answered_word m (fetch_wires (w.c_addr / 8 * 8 + 4))))) here
@@ -308,7 +274,7 @@ work_steps s log ss fs y t a c w p m tags lines v ok h at o f (second_asks b n g
           (w.c_addr / 8 * 8 + 4) m p ok h (omega arith) (omega (arith, o.1)) refl u))
           (f y.fills k))
       | inr u ↦ stepped s log ss fs y t a c w p m tags lines v AsksSecond false g u.grant
-          (second_asks b (missed_put s fs y t a (c + 1) v AsksSecond w n) (state_back AsksSecond) e u.then
+          (second_asks b (missed_put s fs y t a (c + 1) v AsksSecond w n) (doing-state AsksSecond) e u.then
           (f y.fills k))
     ]
   where
@@ -316,13 +282,13 @@ work_steps s log ss fs y t a c w p m tags lines v ok h at o f (second_asks b n g
     same addr a e = omega arith
 work_steps s log ss fs y t a c w p m tags lines v ok h at o f (second_waits b n g e i ne k) =
     stepped s log ss fs y t a c w p m tags lines v AwaitsSecond false g (no_grant p)
-    (second_waits b (missed_put s fs y t a (c + 1) v AwaitsSecond w n) (state_back AwaitsSecond) e
+    (second_waits b (missed_put s fs y t a (c + 1) v AwaitsSecond w n) (doing-state AwaitsSecond) e
     (granted_goes s.plan.iwaits (suc (made y)) (first_answer (settings_of s) y t) (is_unmapped s (line_base a + 4))
     (encode_of 32 7 (word_in s log (second_grant (settings_of s) y t) (line_base a + 4))) c (error_of m no_request)
     (answered_word m no_request) p i ne) (f y.fills k))
 work_steps s log ss fs y t a c w p m tags lines v ok h at o f (last b n g e0 e1 now i k) =
     stepped s log ss fs y t a c w p m tags lines v Answers false g (no_grant p)
-    (last b n (state_back Answers) e0 e1 (omega arith)
+    (last b n (doing-state Answers) e0 e1 (omega arith)
     (free_rests s.plan.iwaits (suc (suc (made y))) (error_of m no_request) (answered_word m no_request) p i)
     (f (filled (settings_of s) fs y t a) k))
 
@@ -346,7 +312,7 @@ unfolding wires_by granted_by
 link_steps s log x q c busy w p m tags lines v ok h f (free b g i k done) =
     subst (λ d. LinkBy s log x q c busy w p m tags lines v d (grants (wires_by d w.c_addr).valid p)) (sym g)
     (subst (λ n. LinkBy s log x q c busy w p m tags lines v Rests n) (sym (no_grant p))
-    (idle b (state_back Rests) (free_rests s.plan.iwaits (made (past (settings_of s) x q)) (error_of m no_request)
+    (idle b (doing-state Rests) (free_rests s.plan.iwaits (made (past (settings_of s) x q)) (error_of m no_request)
     (answered_word m no_request) p i) (f (past (settings_of s) x q).fills k) (λ _. omega arith)))
 link_steps s log x q c busy w p m tags lines v ok h f (pending y t a u) =
     pending y t (record {

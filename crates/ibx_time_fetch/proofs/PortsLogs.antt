@@ -1,53 +1,16 @@
 -- The FENCE.Is and the stored lines over time: what a cycle more says of them.
-use Rattle.std.proofs.Common.{◌≡◌, ℕ, ◌+◌, ◌-◌, ◌*◌, ◌^◌, ◌<◌, ◌≤◌, ◌⊎◌, min, Bool, true, false, ◌&&◌, ◌||◌, ◌==◌}
-use Rattle.std.proofs.Common.{List, [], ◌∷◌, refl, sym, ap, ◌∙◌, subst, inl, inr, arith, nat_lt, nat_le, if◌then◌else◌}
+use Rattle.std.proofs.Common.{◌≡◌, ℕ, ◌+◌, ◌*◌, ◌^◌, ◌<◌, ◌≤◌, ◌⊎◌, Bool, true, false, ◌&&◌, ◌||◌, ◌==◌}
+use Rattle.std.proofs.Common.{List, [], ◌∷◌, refl, subst, inl, inr, arith, nat_lt, nat_le, if◌then◌else◌}
 use Rattle.std.proofs.Common.{Option, Some, None}
-use Rattle.std.proofs.lemmas.Bool.{eqb-true, lt-ltb, le-ltb, le-leb, lt-leb, cases_lt, leb-true, ltb-true}
+use Rattle.std.proofs.lemmas.Bool.{eqb-true, lt-ltb, le-ltb, le-leb, cases_lt, leb-true, ltb-true}
 use Rattle.ibx_time.specs.Settings.{Setup}
 use Rattle.ibx_time.specs.Requests.{Fill, is_walked, last_fill, none_between, slot_of}
 use Rattle.ibx_time_invariant.proofs.Caches.{AreMapped, IsLog, IsOld, starts, tag_of}
+use Rattle.ibx_time.proofs.Walks.{between_more, log_more, starts_before}
+use Rattle.ibx_time_invariant.proofs.Marks.{broken}
 use Rattle.ibx_time_invariant.proofs.Fetches.{is_unmapped}
 
--- what is before a cycle is before a later one
-pub log_more : (fs : List ℕ) (c d : ℕ) → c ≤ d → IsLog fs c → IsLog fs d
-log_more [] c d h l = tt
-log_more (f ∷ fs) c d h l = (omega (arith, l.0), l.1)
-
--- the walk began at this cycle or before
-pub starts_before : (fs : List ℕ) (c : ℕ) → IsLog fs c → starts fs ≤ c
-starts_before [] c l = omega arith
-starts_before (f ∷ fs) c l = omega (arith, l.0)
-
 -- ---- the walk has ended for a request at t
-
--- it has ended 256 cycles after its start, and not before
-cached_old : (fs : List ℕ) (t : ℕ) → starts fs + 256 ≤ t → IsLog fs t → is_walked fs t ≡ true
-unfolding is_walked
-cached_old [] t h l = le-leb 256 t (omega arith)
-cached_old (f ∷ fs) t h l =
-    rw (le-ltb t f (omega arith), lt-ltb (f + 256) t (omega arith))
-    (cached_old fs t (omega (arith, starts_before fs (f + 1) l.1)) (log_more fs (f + 1) t (omega arith) l.1))
-
--- the walk goes on in the 256 cycles from its start on
-cached_not : (fs : List ℕ) (t : ℕ) → starts fs ≤ t → t < starts fs + 256 → is_walked fs t ≡ false
-unfolding is_walked
-cached_not [] t b h = lt-leb 256 t (omega arith)
-cached_not (f ∷ fs) t b h = rw (le-ltb t f (omega arith), le-ltb (f + 256) t (omega arith)) refl
-
--- so the walk's counter tells whether it has ended
-pub walked_is : (fs : List ℕ) (c walk : ℕ) → IsLog fs c → walk ≡ min (c - starts fs) 256
-    → nat_le 256 walk ≡ is_walked fs c
-walked_is fs c walk l e =
-    let b : starts fs ≤ c = starts_before fs c l in
-    elim (cases_lt c (starts fs + 256)) [
-      | inl before ↦ lt-leb 256 walk (omega arith) ∙ sym (cached_not fs c b before)
-      | inr after ↦ le-leb 256 walk (omega arith) ∙ sym (cached_old fs c after l)
-    ]
-
--- in the cycle of a FENCE.I the walk hasn't ended
-pub walked_fence : (fs : List ℕ) (c : ℕ) → is_walked (c ∷ fs) c ≡ false
-unfolding is_walked
-walked_fence fs c = rw (le-ltb c c (omega arith), le-ltb (c + 256) c (omega arith)) refl
 
 -- the first of two tests
 and_left : (a b : Bool) → (a && b) ≡ true → a ≡ true
@@ -64,20 +27,6 @@ walked_till (f ∷ fs) t l e =
 
 -- ---- the FENCE.Is in a span
 
--- a cycle more without a FENCE.I changes nothing, one in the cycle ends the span, and an empty span has none
-pub between_more : (fs : List ℕ) (a c : ℕ) → IsLog fs c → none_between fs a c ≡ none_between fs a (c + 1)
-unfolding none_between
-between_more [] a c l = refl
-between_more (f ∷ fs) a c l =
-    let h : f < c = l.0 in
-    rw (lt-leb c f h, lt-leb (c + 1) f (omega arith))
-    (ap (λ v. (nat_lt f a || false) && v) (between_more fs a c (log_more fs (f + 1) c (omega arith) l.1)))
-
--- a span that reaches over a FENCE.I in this cycle isn't free of one
-pub between_broken : (fs : List ℕ) (a c : ℕ) → a ≤ c → none_between (c ∷ fs) a (c + 1) ≡ false
-unfolding none_between
-between_broken fs a c h = rw (le-ltb c a h, lt-leb (c + 1) c (omega arith)) refl
-
 -- an empty span has no FENCE.I in it
 pub between_none : (fs : List ℕ) (a : ℕ) → none_between fs a a ≡ true
 unfolding none_between
@@ -88,21 +37,10 @@ between_none (f ∷ fs) a = rw (between_none fs a) (either (cases_lt f a))
     either (inl h) = rw (lt-ltb f a h) refl
     either (inr h) = rw (le-ltb f a h, le-leb a f h) refl
 
--- no FENCE.I is at a or later, where all are before it
-pub between_old : (fs : List ℕ) (a b : ℕ) → IsLog fs a → none_between fs a b ≡ true
-unfolding none_between
-between_old [] a b l = refl
-between_old (f ∷ fs) a b l = rw (lt-ltb f a l.0) (between_old fs a b (log_more fs (f + 1) a (omega (arith, l.0)) l.1))
-
 -- ---- the stored lines
 
--- lines that were stored before a cycle were before a later one
-pub old_more : (fills : List Fill) (c d : ℕ) → c ≤ d → IsOld fills c → IsOld fills d
-old_more [] c d h l = tt
-old_more (k ∷ fills) c d h l = (omega (arith, l.0), l.1, l.2, l.3, old_more fills c d h l.4)
-
 -- a line that there is
-some_fill : (a b : Fill) → Some a ≡ Some b → a ≡ b
+pub some_fill : (a b : Fill) → Some a ≡ Some b → a ≡ b
 some_fill a b e = cc
 
 -- what is known of a line that is stored
@@ -153,4 +91,4 @@ pub tag_broken : (s : Setup) (fs : List ℕ) (fills : List Fill) (c slot : ℕ) 
     → (k : Option Fill) → last_fill fills slot ≡ k → tag_of (c ∷ fs) (c + 1) k ≡ 0
 tag_broken s fs fills c slot l m None e = refl
 tag_broken s fs fills c slot l m (Some x) e =
-    rw (between_broken fs x.time c (omega (arith, (old_fill s fills (c + 1) slot x l m e).time))) refl
+    rw (broken fs x.time c (omega (arith, (old_fill s fills (c + 1) slot x l m e).time))) refl

@@ -16,7 +16,8 @@ use Rattle.ibx_icache.specs.declared.port.WordPort.{WordPort}
 use Rattle.ibx_time.specs.Memories.{Write, memory_at}
 use Rattle.ibx_time.specs.Settings.{Setup, settings_of}
 use Rattle.ibx_time.specs.Streams.{Stream, answer, past, word_addr}
-use Rattle.ibx_time_fetch.proofs.ShowsHalves.{err_is, half_at, half_is, same_mapped}
+use Rattle.ibx_time_fetch.proofs.ShowsHalves.{err_is, half_entry, same_mapped}
+use Rattle.ibx_time.proofs.Halves.{half_at}
 use Rattle.ibx_time_fetch.proofs.ShowsWords.{not_there, there}
 
 -- ---- a word is in the buffer just where it has answered
@@ -74,7 +75,7 @@ shows_at s log x half q c i r addr enable f w p tags lines ok v small low at =
           ∙ same_mapped s (word_addr x j) addr ok (omega arith);
       half = λ e.
           ap (λ n. half_at n r) (entry_at s log x f i v.fetch.holds small (ltb-true i f.buf_count e))
-          ∙ half_is (memory_at (image_memory s.image) log g) (is_unmapped s (word_addr x j)) (word_addr x j) r
+          ∙ half_entry (memory_at (image_memory s.image) log g) (is_unmapped s (word_addr x j)) (word_addr x j) r
           (λ b. memory_low (image_memory s.image) log g b (image_low s ok)) low
           ∙ ap (λ n. read_bytes (memory_at (image_memory s.image) log g) n 2) (sym at);
     }

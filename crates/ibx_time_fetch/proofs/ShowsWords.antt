@@ -10,32 +10,20 @@ use Rattle.ibx_bus.specs.Port.{PortState}
 use Rattle.ibx_bus.specs.PortTimes.{answer_time, grant_time}
 use Rattle.ibx_time.specs.Settings.{Settings, Setup, settings_of}
 use Rattle.ibx_time.specs.Memories.{Write}
-use Rattle.ibx_time.specs.Requests.{Past, Switch, after_request, is_cached, is_present, line_of, made, request_by}
-use Rattle.ibx_time.specs.Requests.{second_answer}
+use Rattle.ibx_time.specs.Requests.{Past, Switch, after_request, is_cached, is_present, line_of, request_by}
 use Rattle.ibx_time.specs.Streams.{Stream, answer, issue, last_of, past}
 use Rattle.ibx_time.proofs.Times.{after_issue, answer_mono, next_issue}
 use Rattle.ibx_prefetch.specs.declared.buffer.Prefetch.{Prefetch}
+use Rattle.ibx_time_invariant.proofs.Issues.{bare_answer, miss_answer}
 use Rattle.ibx_icache.specs.declared.port.WordPort.{WordPort}
 
 -- ---- an outstanding request hasn't answered
-
--- when an uncached request answers, a hit, and a miss
-bare_answer : (k : Settings) (ss : List Switch) (fs : List ℕ) (y : Past) (t a : ℕ) → is_cached ss fs t ≡ false
-    → (after_request k ss fs y t a).answer ≡ answer_time k.plan.iwaits (made y) t
-unfolding request_by
-bare_answer k ss fs y t a e = rw e refl
 
 -- a hit answers in the cycle after its request
 hit_answer : (k : Settings) (ss : List Switch) (fs : List ℕ) (y : Past) (t a : ℕ) → is_cached ss fs t ≡ true
     → is_present fs y.fills (line_of a) t ≡ true → (after_request k ss fs y t a).answer ≡ t + 1
 unfolding request_by
 hit_answer k ss fs y t a e h = rw (e, h) refl
-
--- a miss answers in the cycle after that of its line's second word
-miss_answer : (k : Settings) (ss : List Switch) (fs : List ℕ) (y : Past) (t a : ℕ) → is_cached ss fs t ≡ true
-    → is_present fs y.fills (line_of a) t ≡ false → (after_request k ss fs y t a).answer ≡ second_answer k y t + 1
-unfolding request_by
-miss_answer k ss fs y t a e h = rw (e, h) refl
 
 -- a cached request answers after its own cycle
 cached_later : (k : Settings) (ss : List Switch) (fs : List ℕ) (y : Past) (t a : ℕ) → is_cached ss fs t ≡ true
@@ -152,9 +140,3 @@ not_there s log x half q c i enable f w p tags lines v (dropped b d z nothing no
       after_issue (settings_of s) x q,
       answer_mono (settings_of s) x q (length x.enters + i) (omega arith),
     )
-
--- the words of the buffer are requested
-pub buffered : (q m i : ℕ) (busy drop : Bool) (count : ℕ) → Count q m busy drop count → i < count → suc (m + i) ≤ q
-buffered q m i busy drop count (rest b d n) h = omega arith
-buffered q m i busy drop count (coming b d n) h = omega arith
-buffered q m i busy drop count (dropped b d z nothing none) h = absurd (omega arith)

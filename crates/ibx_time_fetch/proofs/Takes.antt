@@ -20,7 +20,8 @@ use Rattle.ibx_time.specs.Times.{Times, has_answered}
 use Rattle.ibx_time.proofs.Times.{after_issue, answer_mono, gates_more, issue_more, last_more, more_length, past_more}
 use Rattle.ibx_time.proofs.Times.{requested_more, with_enter}
 use Rattle.ibx_time_fetch.proofs.ShowsWords.{not_there}
-use Rattle.ibx_time_fetch.proofs.TakesLogs.{grows_same, words_logs}
+use Rattle.ibx_time_fetch.proofs.TakesLogs.{words_logs}
+use Rattle.ibx_time.proofs.Logs.{grows_same}
 
 -- ---- an enter more in the stream
 

@@ -1,14 +1,12 @@
 -- Writes to come change nothing of the words that were read.
-use Rattle.std.proofs.Common.{◌≡◌, ℕ, suc, ◌+◌, ◌*◌, ◌<◌, ◌≤◌, Bool, true, false, List, [], ◌∷◌, ◌++◌, length, refl}
-use Rattle.std.proofs.Common.{sym, ap, ◌∙◌, arith, add-zero, Some, None, ◌==◌, if◌then◌else◌}
-use Rattle.std.proofs.lemmas.Bool.{le-ltb}
-use Rattle.ibx_time_invariant.proofs.Caches.{CacheAt, IsOld}
+use Rattle.std.proofs.Common.{◌≡◌, ℕ, suc, ◌+◌, ◌*◌, ◌<◌, ◌≤◌, Bool, List, [], ◌∷◌, length, refl}
+use Rattle.std.proofs.Common.{sym, ap, ◌∙◌, arith, add-zero}
+use Rattle.ibx_time_invariant.proofs.Caches.{CacheAt}
 use Rattle.ibx_time_invariant.proofs.Fetches.{entry_in, is_unmapped, word_entry, word_in}
 use Rattle.ibx_time_invariant.proofs.Links.{Link, Work, bare_asks, bare_waits, filled, first_asks, first_waits, idle, last}
 use Rattle.ibx_time_invariant.proofs.Links.{line_base, looks, pending, second_asks, second_waits}
-use Rattle.ibx_time_invariant.proofs.Ties.{AreLate, Grows}
+use Rattle.ibx_time.proofs.Logs.{IsSame}
 use Rattle.ibx_time_invariant.proofs.Words.{WordsAt}
-use Rattle.ibx_arch.specs.Memory.{Memory, image_memory, read_bytes}
 use Rattle.ibx_bus.specs.Port.{PortState}
 use Rattle.ibx_bus.specs.PortTimes.{answer_time, grant_time}
 use Rattle.ibx_bus.proofs.Ports.{Granted}
@@ -17,31 +15,13 @@ use Rattle.ibx_secded.specs.Code.{encode_of}
 use Rattle.ibx_prefetch.specs.declared.buffer.Prefetch.{Prefetch}
 use Rattle.ibx_prefetch.specs.Buffer.{entry_of}
 use Rattle.ibx_icache.specs.declared.port.WordPort.{WordPort}
-use Rattle.ibx_time.specs.Memories.{Write, memory_at}
-use Rattle.ibx_time.specs.Requests.{Fill, Past, Switch, first_answer, first_grant, last_fill, made, second_grant}
-use Rattle.ibx_time.specs.Requests.{slot_of}
+use Rattle.ibx_time.specs.Memories.{Write}
+use Rattle.ibx_time.specs.Requests.{Fill, Past, Switch, first_answer, first_grant, made, second_grant}
 use Rattle.ibx_time.specs.Settings.{Setup, settings_of}
 use Rattle.ibx_time.specs.Streams.{Stream, answer, last_of, past, word_addr}
 use Rattle.ibx_time.proofs.Times.{grant_before}
+use Rattle.ibx_time_fetch.proofs.PortsLogs.{IsStored, old_fill}
 use Rattle.ibx_time_fetch.proofs.ShowsWords.{there}
-
--- a write that is later than a read doesn't show in it
-late_memory : (memory : Memory) (front log : List Write) (g d : ℕ) → g ≤ d → AreLate front d
-    → memory_at memory log g ≡ memory_at memory (front ++ log) g
-unfolding memory_at
-late_memory memory [] log g d h l = refl
-late_memory memory (w ∷ front) log g d h l =
-    rw (le-ltb w.time g (omega (arith, l.0))) (late_memory memory front log g d h l.1)
-
--- words that were read at d or before are the same in both logs
-abbrev pub IsSame : Setup → List Write → List Write → ℕ → Type 0
-IsSame s log new d = (g a : ℕ) → g ≤ d → word_in s log g a ≡ word_in s new g a
-
--- so writes that are all later leave words that were read
-pub grows_same : (s : Setup) (log new : List Write) (d : ℕ) → Grows log new d → IsSame s log new d
-grows_same s log new d w g a h =
-    ap (λ m. read_bytes m a 4) (late_memory (image_memory s.image) w.front log g d h w.late
-    ∙ ap (λ l. memory_at (image_memory s.image) l g) (sym w.joined))
 
 -- the same of a word with its error
 entry_same : (s : Setup) (log new : List Write) (d g a : ℕ) → IsSame s log new d → g ≤ d
@@ -49,28 +29,6 @@ entry_same : (s : Setup) (log new : List Write) (d g a : ℕ) → IsSame s log n
 entry_same s log new d g a same h = ap (entry_of (is_unmapped s a)) (same g a h)
 
 -- ---- the cache
-
--- a line that there is, and none
-some_fill : (a b : Fill) → Some a ≡ Some b → a ≡ b
-some_fill a b e = cc
-
--- a place without a line has none to speak of
-none_fill : (x : Fill) {P : Type 0} → None ≡ Some x → P
-none_fill x e = cc
-
--- its words were granted before
-old_fill : (fills : List Fill) (c n : ℕ) (x : Fill) → IsOld fills c → last_fill fills n ≡ Some x
-    → (x.grant0 < c) × (x.grant1 < c)
-unfolding last_fill
-old_fill [] c n x l e = none_fill x e
-old_fill (y ∷ fills) c n x l e = by (slot_of y.line y.way == n) e (λ m. old_fill fills c n x l.4 m)
-  where
-    by : (b : Bool) → (if b then Some y else last_fill fills n) ≡ Some x
-        → (last_fill fills n ≡ Some x → (x.grant0 < c) × (x.grant1 < c)) → (x.grant0 < c) × (x.grant1 < c)
-    by true e old =
-        let same : y ≡ x = some_fill y x e in
-        (omega (arith, l.0, l.1, ap (λ v. v.grant0) same), omega (arith, l.0, l.2, ap (λ v. v.grant1) same))
-    by false e old = old e
 
 -- so the cache holds the same words
 cache_logs : (s : Setup) (log new : List Write) (fs : List ℕ) (fills : List Fill) (c d walk : ℕ) (alt : Bool)
@@ -83,10 +41,10 @@ cache_logs s log new fs fills c d walk alt tags lines same h =
       tag_codes = h.tag_codes;
       line_codes = h.line_codes;
       tag = h.tag;
-      word0 = λ n x low e. let g = old_fill fills d n x h.old e in
-          h.word0 n x low e ∙ ap (encode_of 32 7) (same x.grant0 (8 * x.line) (omega (arith, g.0)));
-      word1 = λ n x low e. let g = old_fill fills d n x h.old e in
-          h.word1 n x low e ∙ ap (encode_of 32 7) (same x.grant1 (8 * x.line + 4) (omega (arith, g.1)));
+      word0 = λ n x low e. let g : IsStored s d n x = old_fill s fills d n x h.old h.mapped e in
+          h.word0 n x low e ∙ ap (encode_of 32 7) (same x.grant0 (8 * x.line) (omega (arith, g.grant0, g.time)));
+      word1 = λ n x low e. let g : IsStored s d n x = old_fill s fills d n x h.old h.mapped e in
+          h.word1 n x low e ∙ ap (encode_of 32 7) (same x.grant1 (8 * x.line + 4) (omega (arith, g.grant1, g.time)));
       quiet = h.quiet;
       old = h.old;
       mapped = h.mapped;

@@ -556,7 +556,7 @@ comes_first : (s : Setup) (limit t : ℕ) (h : Story) (c : ℕ) (id : IdState) (
 comes_first s limit t h c id md ls p v w state sees full a r l g now un two =
     let rsp : Rsp = answer_wires p in
     let first : ℕ = portion_word h w false in
-    let low : first < 2 ^ 32 = portion_low h w false state.bytes in
+    let low : first < 2 ^ 32 = portion_low h w false state.good.bytes in
     let at : answer_at s t h false ≡ c = omega (arith, g.left, now) in
     let e : Early id = portion_early s limit t h c id v w false a r (omega (arith, at)) full.phase in
     let portions : (item_at s t h).portions ≡ portions_by false false true (is_unmapped s (portion_addr w.addr true)) =
@@ -646,7 +646,7 @@ comes_alone : (s : Setup) (limit t : ℕ) (h : Story) (c : ℕ) (id : IdState) (
 comes_alone s limit t h c id md ls p v w state full a r l g now un one =
     let rsp : Rsp = answer_wires p in
     let first : ℕ = portion_word h w false in
-    let low : first < 2 ^ 32 = portion_low h w false state.bytes in
+    let low : first < 2 ^ 32 = portion_low h w false state.good.bytes in
     let e : Early id = portion_early s limit t h c id v w false a r (omega (arith, g.left, now)) full.phase in
     acc_ends s limit t h c id md ls p v w false 0 state full a e
     (a.portions ∙ ap₂ (λ x y. portions_by false x y (is_unmapped s (portion_addr w.addr true))) un one) g now
@@ -666,7 +666,7 @@ comes_second s limit t h c id md ls p v w state full a r l g now un =
     let rsp : Rsp = answer_wires p in
     let first : ℕ = portion_word h w false in
     let second : ℕ = portion_word h w true in
-    let low : second < 2 ^ 32 = portion_low h w true state.bytes in
+    let low : second < 2 ^ 32 = portion_low h w true state.good.bytes in
     let e : Early id = portion_early s limit t h c id v w true a r (omega (arith, g.left, now)) full.phase in
     let two : has_second w.addr w.size ≡ true =
     second_has (is_unmapped s (portion_addr w.addr false)) (has_second w.addr w.size)

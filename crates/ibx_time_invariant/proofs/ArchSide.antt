@@ -1,8 +1,9 @@
 -- The architecture in a cycle: what the stage sees, and what its effects leave. Each statement is over the fields that
 -- hold the state.
-use Rattle.std.proofs.Common.{◌≡◌, ℕ, ◌+◌, ◌%◌, ◌^◌, Bool, true, false, not, ◌||◌, List, if◌then◌else◌, ◌==◌}
+use Rattle.std.proofs.Common.{◌≡◌, ℕ, ◌+◌, ◌%◌, ◌^◌, Bool, false, not, ◌||◌, List, if◌then◌else◌, ◌==◌}
 use Rattle.std.proofs.Common.{slice_index, bit_and, None, Option}
 use Rattle.ibx_csr.specs.Fields.{tick_of, glitch_of}
+use Rattle.ibx_time.proofs.Answered.{parcels_by}
 use Rattle.ibx_time.specs.Times.{target_if}
 use Rattle.ibx_time_invariant.proofs.Stages.{AreAccesses, ItemAt, PhaseAt}
 use Rattle.ibx_time_invariant.proofs.Ties.{IsPlaced, IsState, Tied}
@@ -11,7 +12,8 @@ use Rattle.ibx_time.specs.Settings.{Setup, lines_in, settings_of}
 use Rattle.ibx_time.specs.Items.{item_of}
 use Rattle.ibx_time.specs.History.{Story, continued, event_at, item_at, taken, view_with}
 use Rattle.ibx_id.specs.declared.stage.IdState.{IdState}
-use Rattle.ibx_time_machine.specs.System.{System, happens_at, in_of, put_reg}
+use Rattle.ibx_time_machine.specs.System.{System, happens_at, in_of}
+use Rattle.ibx_time_machine.specs.Words.{put_reg}
 use Rattle.ibx_arch.specs.Step.{Parcels}
 use Rattle.ibx_arch.specs.Fetch.{fetch, is_sound}
 use Rattle.ibx_isa.specs.Lengths.{is_long}
@@ -111,12 +113,6 @@ ArchEnds s =
 abbrev pub fetched_word : Fetched → ℕ
 fetched_word (Unsound addr) = 0
 fetched_word (Instruction word size) = word
-
--- by whether the first parcel is sound, it is long, and the second is sound
-abbrev pub parcels_by : Bool → Bool → Bool → ℕ
-parcels_by false long second = 1
-parcels_by true false second = 1
-parcels_by true true second = 2
 
 -- the item of an instruction that was fetched so, and the word that its view has
 pub record IsFetched (s : Setup) (h : Story) (first second : ℕ) : Type 0 where

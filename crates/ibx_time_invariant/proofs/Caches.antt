@@ -3,21 +3,12 @@ use Rattle.std.proofs.Common.{◌≡◌, ℕ, ◌+◌, ◌-◌, ◌*◌, ◌/◌
 use Rattle.std.proofs.Common.{if◌then◌else◌, slice_index, Some, None, All, Option}
 use Rattle.ibx_time_invariant.proofs.Fetches.{is_unmapped, word_in}
 use Rattle.ibx_time.specs.Settings.{Setup}
+pub use Rattle.ibx_time.proofs.Walks.{IsLog, starts}
 use Rattle.ibx_time.specs.Requests.{Fill, Switch, enabled_at, last_fill, none_between, other_way}
 use Rattle.ibx_time.specs.Memories.{Write}
 use Rattle.ibx_secded.specs.Code.{encode_of}
 
--- ---- the FENCE.Is, the last one first, all before c; and where the last walk began
-
--- the FENCE.I's cycles fall, and are all before c
-abbrev pub IsLog : List ℕ → ℕ → Type 0
-IsLog [] c = Unit {0}
-IsLog (f ∷ fs) c = (f < c) × IsLog fs (f + 1)
-
--- the cycle after the last FENCE.I, or reset
-abbrev pub starts : List ℕ → ℕ
-starts [] = 0
-starts (f ∷ fs) = f + 1
+-- ---- the walk through the cache
 
 -- the walk has cleared a set in each cycle since then, up to all 256
 pub record WalkAt (fs : List ℕ) (c walk : ℕ) : Type 0 where

@@ -20,6 +20,8 @@ use Rattle.ibx_time.specs.BusLines.{wires_at}
 use Rattle.ibx_isa.specs.declared.event.Access.{Access}
 use Rattle.ibx_isa.specs.declared.bus.Req.{Req}
 use Rattle.ibx_lsu.specs.declared.unit.Lsu.{Lsu}
+use Rattle.ibx_bus.proofs.Ports.{Grants, Waits, free_starts, waiting_goes}
+use Rattle.std.proofs.Common.{◌⊎◌, subst}
 use Rattle.ibx_plan.specs.declared.site.Wait.{Wait}
 
 -- the wires with one transaction more
@@ -194,3 +196,12 @@ mid_wires s t h c req next p g (failed b portions r l at f) =
 pub stage_wires : (s : Setup) → StageWires s
 stage_wires s limit h None c id md req next p settled m = m.quiet ∙ none_wired h.sent c settled.granted
 stage_wires s limit h (Some t) c id md req next p settled m = mid_wires s t h c req next p settled.granted m.part
+
+-- ---- what is asked for
+
+-- a request that is asked for is granted now or waits
+pub ask : (ws : List Wait) (n x c : ℕ) (err : Bool) (word : ℕ) (p : PortState) → Ask ws n x c p
+    → Grants ws n x err word c p ⊎ Waits ws n x err word c p
+ask ws n x c err word p (due e f) =
+    subst (λ v. Grants ws n v err word c p ⊎ Waits ws n v err word c p) (sym e) (free_starts ws n err word c p f)
+ask ws n x c err word p (held i) = waiting_goes ws n x err word c p i

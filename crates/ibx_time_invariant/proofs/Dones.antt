@@ -32,7 +32,8 @@ use Rattle.ibx_time.specs.Streams.{Stream, redirected_to}
 use Rattle.ibx_time.specs.Memories.{Write, memory_at}
 use Rattle.ibx_prefetch.specs.declared.buffer.Prefetch.{Prefetch}
 use Rattle.ibx_prefetch.specs.Buffer.{turned}
-use Rattle.ibx_time_machine.specs.System.{System, happens_at, in_of, put_reg}
+use Rattle.ibx_time_machine.specs.System.{System, happens_at, in_of}
+use Rattle.ibx_time_machine.specs.Words.{put_reg}
 use Rattle.ibx_arch.specs.Memory.{image_memory}
 use Rattle.ibx_arch.specs.Step.{Choice, interrupted, step_with}
 use Rattle.ibx_secded.specs.Code.{payload_of}
@@ -218,17 +219,17 @@ unfolding continued taken admitted
 next_made s limit t h = ended_made s h (taken s t h) (choice_at s t h) (item_at s t h) (done_at s limit t h)
 
 -- the next item's story begins with the writes of this one
-next_writes : (s : Setup) (limit t : ℕ) (h : Story) → (continued s limit t h).writes ≡ (taken s t h).writes
+pub next_writes : (s : Setup) (limit t : ℕ) (h : Story) → (continued s limit t h).writes ≡ (taken s t h).writes
 unfolding continued
 next_writes s limit t h = ended_writes s h (taken s t h) (choice_at s t h) (item_at s t h) (done_at s limit t h)
 
 -- the next item's story begins with the transactions of this one
-next_sent : (s : Setup) (limit t : ℕ) (h : Story) → (continued s limit t h).sent ≡ (taken s t h).sent
+pub next_sent : (s : Setup) (limit t : ℕ) (h : Story) → (continued s limit t h).sent ≡ (taken s t h).sent
 unfolding continued
 next_sent s limit t h = ended_sent s h (taken s t h) (choice_at s t h) (item_at s t h) (done_at s limit t h)
 
 -- the last done in the next item's story is this one's
-next_done : (s : Setup) (limit t : ℕ) (h : Story) → (continued s limit t h).done ≡ done_at s limit t h
+pub next_done : (s : Setup) (limit t : ℕ) (h : Story) → (continued s limit t h).done ≡ done_at s limit t h
 unfolding continued
 next_done s limit t h = ended_done s h (taken s t h) (choice_at s t h) (item_at s t h) (done_at s limit t h)
 
@@ -246,7 +247,7 @@ fences_by s h ADummy e = let no_ : false ≡ true = e in cc
 fences_by s h AnInstruction e = refl
 
 -- so an item that is a FENCE.I is an instruction
-fences_real : (s : Setup) (t : ℕ) (h : Story) → (item_at s t h).fences ≡ true → kind_of s t h ≡ AnInstruction
+pub fences_real : (s : Setup) (t : ℕ) (h : Story) → (item_at s t h).fences ≡ true → kind_of s t h ≡ AnInstruction
 unfolding item_at
 fences_real s t h e = fences_by s h (kind_of s t h) e
 
@@ -351,7 +352,7 @@ ends_now s ph ok limit t h q st i n =
     next_words s ph limit t h q c (enables st.main.csrs) st i.words n.done begun
     (enables_is s h c st.main.next_pc st.main.csrs st.regs i.tied
     ∙ sym (ap (λ (v : Ctl). enables_cache v) (taken_ctl s t h)))
-    left.state.pc_even left.state.pc_low in
+    left.state.good.pc_even left.state.good.pc_low in
     let before : IsBefore z.writes c = subst (λ ws. IsBefore ws c) (sym (next_writes s limit t h)) n.settled in
     off t words.0 n.admitted_at n.done left.happens (record {
       next = empty_stage;

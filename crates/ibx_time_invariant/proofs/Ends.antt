@@ -1,6 +1,6 @@
 -- The turn of an item without a portion: it ends in its last cycle, and else stays.
-use Rattle.std.proofs.Common.{◌≡◌, ℕ, zero, suc, ◌+◌, ◌-◌, ◌^◌, ◌<◌, ◌≤◌, Bool, true, false, not, ◌&&◌, ◌≢◌, ◌⊎◌, List}
-use Rattle.std.proofs.Common.{length, if◌then◌else◌, nat_lt, nat_le, ◌==◌, slice_index, Some, None, All, Option, sym}
+use Rattle.std.proofs.Common.{◌≡◌, ℕ, zero, suc, ◌+◌, ◌-◌, ◌<◌, ◌≤◌, Bool, true, false, not, ◌&&◌, ◌≢◌, ◌⊎◌, List}
+use Rattle.std.proofs.Common.{if◌then◌else◌, nat_lt, nat_le, ◌==◌, Some, None, Option, sym}
 use Rattle.std.proofs.Common.{◌||◌, refl, ap, ◌∙◌, subst, ap₂, inl, inr, arith, true≢false}
 use Rattle.std.proofs.lemmas.Bool.{cases_lt, lt-ltb, le-ltb, le-leb, lt-leb, ne_eqb}
 use Rattle.ibx_id.specs.declared.stage.Turn.TheVariants.{Idle as turn_none, Dummy, Hold, Irq, Retire, Trap}
@@ -14,7 +14,6 @@ use Rattle.ibx_time_invariant.proofs.Stages.{trap_phase, view_by, view_phase, wa
 use Rattle.ibx_time.specs.Shown.{staged_by}
 use Rattle.ibx_muldiv.proofs.Cycles.{left_of-start, left_of-tick}
 use Rattle.ibx_isa.specs.Cost.{md_cost_of}
-use Rattle.std.proofs.lemmas.List.{get_or_past}
 use Rattle.ibx_id.specs.Turns.{held, turn_of, ends_at, is_some_cause, real_turn, worked}
 use Rattle.ibx_id.specs.declared.stage.Turn.{Turn}
 use Rattle.ibx_id.specs.declared.stage.IdState.{IdState}
@@ -45,6 +44,7 @@ use Rattle.ibx_lsu.specs.declared.unit.LsTurn.{LsTurn}
 use Rattle.ibx_plan.specs.declared.site.Wait.{Wait}
 use Rattle.ibx_isa.specs.declared.insn.Insn.TheVariants.{MulDiv, Wfi}
 use Rattle.ibx_core.specs.Sights.{is_some_access, md_by, turn_by, row_of}
+use Rattle.ibx_time.proofs.States.{reg_low}
 use Rattle.ibx_core.specs.Core.{ls_by, md_next}
 
 -- ---- searches
@@ -312,18 +312,6 @@ some_phase s limit t h c phase past_ (fresh e at) = λ z. absurd (omega (arith, 
 some_phase s limit t h c phase past_ (later e less _) = λ z. absurd (omega (arith, e, z))
 some_phase s limit t h c phase past_ (found e two less done) = λ z. absurd (omega (arith, two, z))
 
--- registers are words
-reg_low : (h : Story) (n : ℕ) → All (λ v. v < 2 ^ 32) h.state.regs → reg h.state n < 2 ^ 32
-reg_low h n low =
-    elim (n == 0) as (λ b. (if b then 0 else slice_index h.state.regs n) < 2 ^ 32) [
-      | true ↦ omega arith
-      | false ↦
-          elim (cases_lt n (length h.state.regs)) [
-            | inl inside ↦ low n 0 inside
-            | inr out ↦ subst (λ v. v < 2 ^ 32) (sym (get_or_past h.state.regs n 0 out)) (omega arith)
-          ]
-    ]
-
 -- the calculation of an M row in cycle c
 record MdValue (s : Setup) (t : ℕ) (h : Story) (c : ℕ) (id : IdState) (md : MulDivUnit) (v : Eyes) (op : MdOp)
     (rs1 rs2 : ℕ) : Type 0 where
@@ -365,7 +353,7 @@ md_value s limit t h c id md v op rd rs1 rs2 state sees phase (starts now k) row
         now,
         ap left_of value,
         left_of-start op (reg h.state rs1) (reg h.state rs2) (is_fixed_at s t h id) s.mul
-            (reg_low h rs1 state.regs_low) (reg_low h rs2 state.regs_low),
+            (reg_low s.image.ram h.state rs1 state.good) (reg_low s.image.ram h.state rs2 state.good),
         o.cost_is,
         ap₂ (λ n k. md_cost_of op n k s.mul) o.second o.fixed_is,
       );

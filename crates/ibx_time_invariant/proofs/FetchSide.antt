@@ -2,13 +2,12 @@
 -- the bus and the cache, and over what the other side decides: a FENCE.I, a redirect, the bit that enables the cache,
 -- and parcels taken.
 use Rattle.std.proofs.Common.{◌≡◌, ℕ, ◌+◌, ◌/◌, ◌%◌, ◌^◌, ◌<◌, ◌≤◌, Bool, true, false, not, ◌&&◌, List, nat_le}
-use Rattle.std.proofs.Common.{slice_index, Some, Option}
+use Rattle.std.proofs.Common.{Some, Option}
 use Rattle.ibx_time.specs.Times.{marked as marked_by, Times, entered, has_answered}
 use Rattle.ibx_icache.specs.WordPort.{after_answer as port_answered, WordIn, answer_of, begun_by, filling_of, looked}
 use Rattle.ibx_icache.specs.WordPort.{walked}
 use Rattle.ibx_icache.specs.Doing.{doing_of, granted_by, is_rest, state_of, wires_by}
 use Rattle.ibx_icache.specs.declared.port.WordPort.{WordPort}
-use Rattle.ibx_icache.specs.declared.lookup.Look.{Look}
 use Rattle.ibx_prefetch.specs.Buffer.{request_of, requested, entry_of, head_of, received, took, turned}
 use Rattle.ibx_prefetch.specs.declared.buffer.WordAns.{WordAns}
 use Rattle.ibx_prefetch.specs.declared.buffer.Prefetch.{Prefetch}
@@ -22,22 +21,14 @@ use Rattle.ibx_time.specs.Controls.{Ctl, enables_cache}
 use Rattle.ibx_time.specs.Streams.{Stream, issue, past, redirected}
 use Rattle.ibx_time.specs.Memories.{Write, memory_at}
 use Rattle.ibx_time.specs.BusLines.{wires_at}
-use Rattle.ibx_time_machine.specs.System.{line_place, put_lines, put_tags, set_slot}
+use Rattle.ibx_time_machine.specs.Words.{put_lines, put_tags}
 use Rattle.ibx_arch.specs.Memory.{image_memory}
 use Rattle.ibx_isa.specs.declared.bus.Req.{Req}
 use Rattle.ibx_memory.specs.Coded.{HoldsMemory}
+use Rattle.ibx_time_machine.specs.Words.{look_at}
 use Rattle.ibx_core.specs.Core.{is_flipped}
 
 -- ---- what the word port sees
-
--- the tags and data words that the cache reads for an address
-abbrev pub look_at : List ℕ → List ℕ → ℕ → Look
-look_at tags lines addr = record {
-  tag0 = slice_index tags (set_slot addr);
-  tag1 = slice_index tags (set_slot addr + 1);
-  data0 = slice_index lines (line_place (set_slot addr) addr);
-  data1 = slice_index lines (line_place (set_slot addr + 1) addr);
-}
 
 -- what the word port is handed in a cycle
 abbrev pub seen_by : Option ℕ → Bool → Bool → WordPort → PortState → List ℕ → List ℕ → WordIn

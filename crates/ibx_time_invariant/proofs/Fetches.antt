@@ -4,6 +4,7 @@ use Rattle.std.proofs.Common.{nat_le}
 use Rattle.ibx_time.specs.Settings.{Setup, settings_of}
 use Rattle.ibx_time.specs.Streams.{Stream, answer, last_of, past, word_addr}
 use Rattle.ibx_time.specs.Memories.{Write, memory_at}
+pub use Rattle.ibx_time.proofs.Logs.{word_in}
 use Rattle.ibx_prefetch.specs.declared.buffer.Head.{Head}
 use Rattle.ibx_prefetch.specs.Buffer.{entry_of}
 use Rattle.ibx_prefetch.specs.declared.buffer.Prefetch.{Prefetch}
@@ -12,15 +13,11 @@ use Rattle.ibx_arch.specs.Memory.{image_memory, read_bytes, is_mapped}
 
 -- ---- words as memory held them
 
--- the word at an address in a cycle, and with it in bit 32 whether no memory answers there
-abbrev pub word_in : Setup → List Write → ℕ → ℕ → ℕ
-word_in s log g a = read_bytes (memory_at (image_memory s.image) log g) a 4
-
 -- no memory answers at an address
 abbrev pub is_unmapped : Setup → ℕ → Bool
 is_unmapped s a = not (is_mapped s.image.ram a)
 
--- the word with that in bit 32
+-- the word at an address in a cycle, and with it in bit 32 whether no memory answers there
 abbrev pub entry_in : Setup → List Write → ℕ → ℕ → ℕ
 entry_in s log g a = entry_of (is_unmapped s a) (word_in s log g a)
 

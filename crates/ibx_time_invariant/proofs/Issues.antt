@@ -1,9 +1,9 @@
 -- The issue of a cycle: the next word is requested where none is outstanding and there is room.
 use Rattle.std.proofs.Common.{◌≡◌, ℕ, zero, suc, ◌+◌, ◌*◌, ◌/◌, ◌%◌, ◌^◌, ◌<◌, ◌≤◌, Bool, true, false, not, ◌&&◌, ◌||◌}
-use Rattle.std.proofs.Common.{List, [], ◌∷◌, length, drop, if◌then◌else◌, nat_lt, nat_le, Some, None, Option, sym}
+use Rattle.std.proofs.Common.{List, length, drop, if◌then◌else◌, nat_lt, nat_le, Some, None, Option, sym}
 use Rattle.std.proofs.Common.{refl, ap, ◌∙◌, subst, ap₂, inl, inr, arith}
 use Rattle.std.proofs.lemmas.Bool.{cases_lt, lt-ltb, le-ltb, le-leb, lt-leb}
-use Rattle.ibx_time_invariant.proofs.Caches.{starts, IsLog, WalkAt, WalkMid, restarts, walks}
+use Rattle.ibx_time_invariant.proofs.Caches.{starts, WalkAt, WalkMid, restarts, walks}
 use Rattle.ibx_time.specs.Requests.{is_cached, Past, Switch, after_request, enabled_at, first_answer, found_slot}
 use Rattle.ibx_time.specs.Requests.{is_kept, is_present, is_walked, line_of, made, none_between, request_by}
 use Rattle.ibx_time.specs.Requests.{second_answer, victim}
@@ -14,7 +14,8 @@ use Rattle.ibx_time_invariant.proofs.Links.{Cached, IsSent, Mid, Wired, bare_ask
 use Rattle.ibx_time_invariant.proofs.Links.{free, last, looks, pending, second_asks, second_waits}
 use Rattle.ibx_time_invariant.proofs.Words.{AfterAnswer, AfterIssue}
 use Rattle.ibx_time_invariant.proofs.FetchSide.{FetchIssues, issued}
-use Rattle.ibx_time_invariant.proofs.Turns.{log_more, past_sent}
+use Rattle.ibx_time_invariant.proofs.Turns.{past_sent}
+use Rattle.ibx_time.proofs.Walks.{between_old, starts_before, walked_fence, walked_not, walked_old}
 use Rattle.ibx_time_invariant.proofs.DataWires.{ask_late}
 use Rattle.ibx_bus.specs.Port.{PortState}
 use Rattle.ibx_bus.specs.PortTimes.{answer_time, grant_time}
@@ -30,39 +31,14 @@ use Rattle.ibx_icache.specs.declared.port.WordPort.{WordPort}
 
 -- ---- the walk and the enable bit, against what the equations ask
 
--- the last walk began in this cycle or before it
-starts_before : (fs : List ℕ) (c : ℕ) → IsLog fs c → starts fs ≤ c
-starts_before [] c l = omega arith
-starts_before (f ∷ fs) c l = omega (arith, l.0)
-
--- the walk has ended from the 256th cycle after its start on
-walked_old : (fs : List ℕ) (t : ℕ) → starts fs ≤ t → starts fs + 256 ≤ t → IsLog fs t → is_walked fs t ≡ true
-unfolding is_walked
-walked_old [] t b h l = le-leb 256 t (omega arith)
-walked_old (f ∷ fs) t b h l =
-    rw (le-ltb t f (omega arith), lt-ltb (f + 256) t (omega arith))
-    (walked_old fs t (omega (arith, starts_before fs (f + 1) l.1)) (omega (arith, starts_before fs (f + 1) l.1))
-    (log_more fs (f + 1) t (omega arith) l.1))
-
--- the walk goes on in the 256 cycles from its start on
-walked_not : (fs : List ℕ) (t : ℕ) → starts fs ≤ t → t < starts fs + 256 → is_walked fs t ≡ false
-unfolding is_walked
-walked_not [] t b h = lt-leb 256 t (omega arith)
-walked_not (f ∷ fs) t b h = rw (le-ltb t f (omega arith), le-ltb (f + 256) t (omega arith)) refl
-
 -- so the walk has come to 256 just where the equations say that it has ended
 walk_is : (fs : List ℕ) (c walk : ℕ) → WalkAt fs c walk → nat_le 256 walk ≡ is_walked fs c
 walk_is fs c walk w =
     let b : starts fs ≤ c = starts_before fs c w.log in
     elim (cases_lt c (starts fs + 256)) [
       | inl before_ ↦ lt-leb 256 walk (omega (arith, w.walk_is)) ∙ sym (walked_not fs c b before_)
-      | inr after_ ↦ le-leb 256 walk (omega (arith, w.walk_is)) ∙ sym (walked_old fs c b after_ w.log)
+      | inr after_ ↦ le-leb 256 walk (omega (arith, w.walk_is)) ∙ sym (walked_old fs c after_ w.log)
     ]
-
--- a FENCE.I in this cycle begins it anew, so the test of a cached request is theirs
-walked_fence : (fs : List ℕ) (c : ℕ) → is_walked (c ∷ fs) c ≡ false
-unfolding is_walked
-walked_fence fs c = rw (le-ltb c c (omega arith), le-ltb (c + 256) c (omega arith)) refl
 
 -- the port takes a request as cached just where the equations do
 cached_by : (ss : List Switch) (fs : List ℕ) (c walk : ℕ) (fence enable : Bool) → enable ≡ enabled_at ss c
@@ -92,17 +68,11 @@ cached_by ss fs c walk fence enable e (restarts old same f w) =
 
 -- ---- the mark of a new request
 
--- a new request has no FENCE.I since
-between_at : (fs : List ℕ) (c d : ℕ) → d ≤ c → IsLog fs d → none_between fs c (c + 1) ≡ true
-unfolding none_between
-between_at [] c d h l = refl
-between_at (f ∷ fs) c d h l = rw (lt-ltb f c (omega (arith, l.0))) (between_at fs c (f + 1) (omega (arith, l.0)) l.1)
-
 -- a cached request begins without the mark of a FENCE.I
 unmarked : (ss : List Switch) (fs : List ℕ) (c walk : ℕ) (fence : Bool) → is_cached ss fs c ≡ true
     → WalkMid fs c fence walk → false ≡ not (none_between fs c (c + 1))
 unfolding is_cached
-unmarked ss fs c walk fence e (walks f w) = sym (ap not (between_at fs c c (omega arith) w.log))
+unmarked ss fs c walk fence e (walks f w) = sym (ap not (between_old fs c (c + 1) w.log))
 unmarked ss fs c walk fence e (restarts old same f w) =
     let no_ : false ≡ true = sym (none (enabled_at ss c)) ∙ sym (ap (λ b. enabled_at ss c && b) (walked_fence old c))
     ∙ sym (ap (λ l. enabled_at ss c && is_walked l c) same) ∙ e in cc
@@ -114,7 +84,7 @@ unmarked ss fs c walk fence e (restarts old same f w) =
 -- ---- a request that is outstanding answers after this cycle
 
 -- when an uncached request answers, and a miss
-bare_answer : (k : Settings) (ss : List Switch) (fs : List ℕ) (y : Past) (t a : ℕ) → is_cached ss fs t ≡ false
+pub bare_answer : (k : Settings) (ss : List Switch) (fs : List ℕ) (y : Past) (t a : ℕ) → is_cached ss fs t ≡ false
     → (after_request k ss fs y t a).answer ≡ answer_time k.plan.iwaits (made y) t
 unfolding request_by
 bare_answer k ss fs y t a e =
@@ -122,7 +92,7 @@ bare_answer k ss fs y t a e =
     (found_slot fs y.fills (line_of a) t) (victim fs y.fills (line_of a) t) k y t a).answer) e
 
 -- a miss answers in the cycle after that of its line's second word
-miss_answer : (k : Settings) (ss : List Switch) (fs : List ℕ) (y : Past) (t a : ℕ) → is_cached ss fs t ≡ true
+pub miss_answer : (k : Settings) (ss : List Switch) (fs : List ℕ) (y : Past) (t a : ℕ) → is_cached ss fs t ≡ true
     → is_present fs y.fills (line_of a) t ≡ false → (after_request k ss fs y t a).answer ≡ second_answer k y t + 1
 unfolding request_by
 miss_answer k ss fs y t a e f =
@@ -182,7 +152,7 @@ more_addr base j = omega arith
 -- ---- by whether a word is outstanding, and whether there is room
 
 -- nothing is requested while a word is outstanding, nor where there is no room, and else the next word
-request_busy : (f : Prefetch) → f.f_busy ≡ true → request_of f ≡ None
+pub request_busy : (f : Prefetch) → f.f_busy ≡ true → request_of f ≡ None
 unfolding request_of
 request_busy f e = ap (λ b. if not b && (f.f_fresh || nat_lt f.buf_count 3) then Some (next_addr f) else None) e
 
@@ -274,7 +244,7 @@ is_free s log x q c busy w p tags lines e (free b d i k z) = record { rests_ = d
 is_free s log x q c busy w p tags lines e (pending y t a work) = let no_ : true ≡ false = sym a.is_busy ∙ e in cc
 
 -- with no word outstanding, those held and taken are all that were requested, and none is to be dropped
-count_free : (q m count : ℕ) (busy drop : Bool) → busy ≡ false → Count q m busy drop count
+pub count_free : (q m count : ℕ) (busy drop : Bool) → busy ≡ false → Count q m busy drop count
     → (count + m ≡ q) × (drop ≡ false)
 count_free q m count busy drop e (rest b d k) = (k, d)
 count_free q m count busy drop e (coming b d k) = let no_ : true ≡ false = sym b ∙ e in cc

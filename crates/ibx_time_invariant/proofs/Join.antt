@@ -1,8 +1,9 @@
 -- One cycle keeps the invariant, and a whole run gives the history.
-use Rattle.std.proofs.Common.{◌≡◌, ℕ, zero, suc, ◌+◌, ◌-◌, ◌<◌, ◌≤◌, Bool, true, false, List, [], if◌then◌else◌, Some}
+use Rattle.std.proofs.Common.{◌≡◌, ℕ, zero, suc, ◌+◌, ◌-◌, ◌<◌, ◌≤◌, Bool, true, false, List, [], Some}
 use Rattle.std.proofs.Common.{None, Option, sym, refl, ap, ◌∙◌, subst, arith}
 use Rattle.std.proofs.lemmas.Bool.{lt-ltb, le-ltb}
-use Rattle.ibx_time_machine.specs.System.{with_event as adds_event, shown_of, System, happens_at, in_of, next_from, run}
+use Rattle.ibx_time_machine.specs.System.{shown_of, System, happens_at, in_of, next_from, run}
+use Rattle.ibx_time.specs.Runs.{with_event as adds_event}
 use Rattle.ibx_time_machine.specs.System.{system_by, system_next}
 use Rattle.ibx_muldiv.specs.declared.unit.MulDiv.{MulDiv as MulDivUnit}
 use Rattle.ibx_time.specs.History.{with_event, Story, Told, admission, continued, done_at, event_at, item_at, told}
@@ -17,7 +18,6 @@ use Rattle.ibx_time_invariant.proofs.FetchSide.{ans_of}
 use Rattle.ibx_time_invariant.proofs.Dones.{Done, after_done, effect_in, off, on, sight_in}
 use Rattle.ibx_bus.specs.Port.{PortState}
 use Rattle.ibx_bus.specs.PortTimes.{answer_time, grant_time}
-use Rattle.ibx_time.specs.Search.{first_from}
 use Rattle.ibx_time.specs.Settings.{Setup, settings_of, lines_in}
 use Rattle.ibx_time.specs.Items.{NoPortion, One, OneBad, Portions, Two, TwoBad}
 use Rattle.ibx_time.specs.Times.{done_by, done_of, is_ready, kind_at, may_end, portion_answer, stop_of}
@@ -35,6 +35,7 @@ use Rattle.ibx_core.specs.Entries.{Entry, admits_by}
 use Rattle.ibx_time_invariant.proofs.Entries.{entry_is}
 use Rattle.ibx_prefetch.specs.Buffer.{fetch_after_answer, head_of, request_of}
 use Rattle.ibx_prefetch.specs.declared.buffer.Prefetch.{Prefetch}
+use Rattle.ibx_time.proofs.Timed.{first_after}
 use Rattle.ibx_prefetch.specs.declared.buffer.WordAns.{WordAns}
 
 -- ---- the step of the system, by its sight, its effect and its entry
@@ -125,16 +126,6 @@ step s ph ok limit h o q st less i = outcome s ph ok limit h st less (after_done
 
 -- ---- an item isn't done before its time
 
--- a search doesn't end before it begins
-pub first_not_before : (n : ℕ) (test : ℕ → Bool) (c : ℕ) → c ≤ first_from n test c
-unfolding first_from
-first_not_before zero test c = omega arith
-first_not_before (suc n) test c =
-    elim (test c) as (λ b. c ≤ (if b then c else first_from n test (c + 1))) [
-      | true ↦ omega arith
-      | false ↦ omega (arith, first_not_before n test (c + 1))
-    ]
-
 -- no item is done before the answer of a portion that it reaches
 pub reached_late : (ws : List Wait) (portions : Portions) (n e stop : ℕ) (b : Bool) → reaches portions b ≡ true
     → portion_answer ws n e b ≤ done_by ws portions n e stop
@@ -189,7 +180,7 @@ admitted_before s limit t h =
       enters_late s.plan.dwaits (item_at s t h).portions h.times.made t (stop_at s limit t h)
           (omega (
             arith,
-            first_not_before (limit - (t + 1))
+            first_after (limit - (t + 1))
                 (may_end (settings_of s) (item_at s t h) h.times.ctl (t + 1)) (t + 1),
           )),
     )
@@ -216,7 +207,7 @@ ls_late s limit t c h ls p running (quiet e k i) =
       ap (λ portions. done_by s.plan.dwaits portions h.times.made (t + 1) (stop_at s limit t h)) e,
       plain_done s.plan.dwaits h.times.made (t + 1) (stop_at s limit t h),
       running e,
-      first_not_before (limit - c) (may_end (settings_of s) (item_at s t h) h.times.ctl (t + 1)) c,
+      first_after (limit - c) (may_end (settings_of s) (item_at s t h) h.times.ctl (t + 1)) c,
     )
 ls_late s limit t c h ls p running (new w b r e now i) = portion_late s limit t c h w b r (omega (arith, now))
 ls_late s limit t c h ls p running (waiting w b r e g) = portion_late s limit t c h w b r (omega (arith, g.late))
@@ -238,7 +229,7 @@ not_before s limit h None c id md ls p u =
     omega (
       arith,
       u.search,
-      first_not_before (limit - c)
+      first_after (limit - c)
           (λ t. is_ready (kind_at (settings_of s) h.times t) (words_there s h t)) c,
       admitted_before s limit (admission s limit h) h,
     )

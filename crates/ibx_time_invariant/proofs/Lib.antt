@@ -28,4 +28,3 @@ pub mod Marks
 pub mod FetchWiring
 pub mod Issues
 pub mod Results
-mod Tests

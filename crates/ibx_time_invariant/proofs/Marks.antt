@@ -237,7 +237,7 @@ fenced_cached s log fs fills c w tags lines k =
     }
 
 -- the line of a request that is outstanding is kept from being stored, by the history and by the mark
-broken : (fs : List ℕ) (t c : ℕ) → t ≤ c → none_between (c ∷ fs) t (c + 1) ≡ false
+pub broken : (fs : List ℕ) (t c : ℕ) → t ≤ c → none_between (c ∷ fs) t (c + 1) ≡ false
 unfolding none_between
 broken fs t c h = rw (le-ltb c t h, lt-leb (c + 1) c (omega arith)) refl
 

@@ -13,7 +13,6 @@ use Rattle.std.proofs.lemmas.Nat.{mod_below}
 use Rattle.ibx_elf.specs.Image.{image_word, image_byte, Placed}
 use Rattle.std.proofs.Math.Nat.{zero-mod, mod-eq_of_lt}
 use Rattle.std.proofs.lemmas.List.{get_or-replicate, length-replicate}
-use Rattle.ibx_csr.specs.Kept.{kept_mtvec}
 use Rattle.ibx_bus.proofs.Ports.{place_of, Idle}
 use Rattle.ibx_elf.specs.declared.ram.Ram.{Ram}
 use Rattle.ibx_time_invariant.proofs.Caches.{IsCode, CacheAt}
@@ -42,8 +41,8 @@ use Rattle.ibx_secded.specs.Code.{checks, column, columns, encode_of, numbers_of
 use Rattle.ibx_elf.specs.Ram.{ram_has}
 use Rattle.ibx_plan.specs.declared.site.Wait.{Wait}
 use Rattle.ibx_memory.specs.Coded.{HoldsMemory}
-use Rattle.ibx_csr.proofs.Legal.{legal-low}
-use Rattle.ibx_csr.specs.declared.name.Csr.TheVariants.{Mtvec}
+use Rattle.ibx_time.proofs.Stories.{IsSane, story_good}
+use Rattle.ibx_time.specs.Chains.{story_after}
 
 -- ---- the words of the image
 
@@ -226,7 +225,7 @@ first_words s ok =
 first_complements : (entry : ℕ) → Complemented (csrs_reset entry)
 unfolding csrs_reset
 first_complements entry = record {
-  trap = (refl, (refl, (refl, tt)));
+  trap = (refl, (refl, (refl, (refl, tt))));
   cfg = (refl, (refl, (refl, (refl, tt))));
   low = (refl, (refl, (refl, (refl, (refl, (refl, (refl, (refl, tt))))))));
   high = (refl, (refl, (refl, (refl, (refl, (refl, (refl, (refl, tt))))))));
@@ -257,48 +256,19 @@ first_tied s ok =
       pc = half_is s.image.entry ok.setup.even (entry_low s ok);
     }
 
--- memory has bytes, and the handlers a word
-pub byte_low : (s : Setup) (a : ℕ) → IsPlaced s → (image_memory s.image).byte a < 256
-unfolding image_memory
-byte_low s a ok = elim (ram_has s.image.ram a) as (λ b. (if b then image_byte s.image a else 0) < 256)
-    [ true ↦ ok.bytes a | false ↦ omega arith ]
-
--- the handlers' address that reset takes from the entry is a word
-mtvec_low : (entry : ℕ) → kept_mtvec entry < 2 ^ 32
-mtvec_low entry = legal-low Mtvec entry
+-- a placed setup is one whose states are valid
+pub sane : (s : Setup) → IsPlaced s → IsSane s
+sane s ok = record { entry_even = ok.setup.even; entry_low = entry_low s ok; bytes = ok.bytes; lines = ok.lines }
 
 -- the first state is valid
 first_state : (s : Setup) → IsPlaced s → IsState s 0 (opening s)
-unfolding reset_state csr_reset memory_at image_memory
-first_state s ok =
-    record {
-      pc_even = ok.setup.even;
-      pc_low = entry_low s ok;
-      csrs = record {
-        mstatus = omega arith;
-        mie = omega arith;
-        mtvec = mtvec_low s.image.entry;
-        mepc = omega arith;
-        mepc_even = refl;
-        mscratch = omega arith;
-        mcause = omega arith;
-        mtval = omega arith;
-        mcountinhibit = omega arith;
-        pmpcfg = all_of (λ v. v < 2 ^ 32) 4 0 (omega arith);
-        pmpaddr = all_of (λ v. v < 2 ^ 32) 16 0 (omega arith);
-        cpuctrl = omega arith;
-        mcycle = omega arith;
-        minstret = omega arith;
-      };
-      regs_count = length-replicate {A = ℕ} 32 0;
-      regs_low = all_of (λ v. v < 2 ^ 32) 32 0 (omega arith);
-      zero_is = refl;
-      ram = refl;
-      bytes = λ a. byte_low s a ok;
-      stands = omega arith;
-      done = omega arith;
-      settled = record { before = tt; granted = tt; memory = refl };
-    }
+unfolding reset_state memory_at story_after
+first_state s ok = record {
+  good = story_good s 0 0 (sane s ok);
+  stands = omega arith;
+  done = omega arith;
+  settled = record { before = tt; granted = tt; memory = refl };
+}
 
 -- so the invariant holds at reset
 pub opens : (s : Setup) → IsPlaced s → (limit : ℕ) → Inv s limit (opening s) None 0 (first_system s)

@@ -166,4 +166,20 @@ ls_quiet s t h c ls p low (failed b k e at i) = quiet_none p i.busy
 -- so neither port raises an alert
 pub stage_quiet : (s : Setup) → StageQuiet s
 stage_quiet s limit h None c id md ls p state u = quiet_none p u.idle.busy
-stage_quiet s limit h (Some t) c id md ls p state f = ls_quiet s t h c ls p state.bytes f.part
+stage_quiet s limit h (Some t) c id md ls p state f = ls_quiet s t h c ls p state.good.bytes f.part
+
+-- memory keeps its range
+pub memory_ram : (memory : Memory) (ws : List Write) (c : ℕ) → (memory_at memory ws c).ram ≡ memory.ram
+unfolding memory_at with_bytes
+memory_ram memory [] c = refl
+memory_ram memory (w ∷ ws) c =
+    elim (nat_lt w.time c) as (λ b. (if b then with_bytes (memory_at memory ws c) w.addr w.from w.to w.value
+    else memory_at memory ws c).ram ≡ memory.ram) [
+      | true ↦ memory_ram memory ws c
+      | false ↦ memory_ram memory ws c
+    ]
+
+-- memory has the range of the image's RAM at any time
+pub image_ram : (s : Setup) (ws : List Write) (c : ℕ) → (memory_at (image_memory s.image) ws c).ram ≡ s.image.ram
+unfolding image_memory
+image_ram s ws c = memory_ram (image_memory s.image) ws c

@@ -18,7 +18,7 @@ use Rattle.ibx_time.specs.Streams.{Stream}
 use Rattle.ibx_time.specs.Memories.{Write}
 
 -- a port at rest doesn't answer
-rest_silent : (w : WordPort) (rsp : Rsp) (l : Look) → doing_of w.c_state ≡ Rests → (answer_of w rsp l).valid ≡ false
+pub rest_silent : (w : WordPort) (rsp : Rsp) (l : Look) → doing_of w.c_state ≡ Rests → (answer_of w rsp l).valid ≡ false
 unfolding answer_of answers_by
 rest_silent w rsp l e = rw e refl
 

@@ -53,14 +53,7 @@ arch_rests s h c next_pc csrs regs t i = record {
     pc = t.pc;
   };
   state = record {
-    pc_even = i.pc_even;
-    pc_low = i.pc_low;
-    csrs = i.csrs;
-    regs_count = i.regs_count;
-    regs_low = i.regs_low;
-    zero_is = i.zero_is;
-    ram = i.ram;
-    bytes = i.bytes;
+    good = i.good;
     stands = omega (arith, i.stands);
     done = omega (arith, i.done);
     settled = record {

@@ -12,7 +12,7 @@ use Rattle.ibx_time_invariant.proofs.Ties.{IsPlaced, MemoryAt}
 use Rattle.ibx_time_invariant.proofs.Invariant.{Inv, enables}
 use Rattle.ibx_time_invariant.proofs.Phases.{Phases}
 use Rattle.ibx_time_invariant.proofs.Cycle.{Follows}
-use Rattle.ibx_time_invariant.proofs.Join.{Agrees, agree, ended, first_not_before, next_cycle, no_more, not_before, one_more}
+use Rattle.ibx_time_invariant.proofs.Join.{Agrees, agree, ended, next_cycle, no_more, not_before, one_more}
 use Rattle.ibx_time_invariant.proofs.Join.{silent, step}
 use Rattle.ibx_time_invariant.proofs.Opens.{opens}
 use Rattle.ibx_bus.specs.Port.{PortState, answer_wires}
@@ -24,8 +24,10 @@ use Rattle.ibx_time.specs.History.{told_below, with_item, words_there}
 use Rattle.ibx_time.specs.BusLines.{BusLine, bus_line, fetches, wires_at}
 use Rattle.ibx_time.proofs.Times.{requested_is}
 use Rattle.ibx_time_machine.specs.Core.{core_out_by}
-use Rattle.ibx_time_machine.specs.Whole.{HasEvents, HasWires, HoldsValues, HoldsWords, IsQuiet, ShowsHistory, shown_in}
-use Rattle.ibx_time_machine.specs.Whole.{staged_in, steps, system_at}
+use Rattle.ibx_time_machine.specs.Whole.{HasEvents, HasWires, HoldsValues, IsQuiet, ShowsHistory}
+use Rattle.ibx_time_machine.specs.Shown.{shown_in}
+use Rattle.ibx_time_machine.specs.Whole.{steps, system_at}
+use Rattle.ibx_time_machine.specs.Shown.{staged_in}
 use Rattle.ibx_csr.specs.Fields.{glitch_of, values}
 use Rattle.ibx_csr.specs.Values.{CsrValues}
 use Rattle.ibx_secded.specs.Code.{syndrome_of}
@@ -33,10 +35,12 @@ use Rattle.ibx_isa.specs.declared.bus.Req.{Req}
 use Rattle.ibx_lsu.specs.declared.unit.Lsu.{Lsu}
 use Rattle.ibx_id.specs.declared.stage.IdState.{IdState}
 use Rattle.ibx_core.specs.Core.{is_flipped}
+use Rattle.ibx_time.proofs.Timed.{first_after}
+use Rattle.ibx_time.specs.Runs.{HoldsRam, HoldsRegisters, story_at}
 use Rattle.ibx_core.specs.Sights.{ra_of, rb_of}
 
 -- the cycle counts the steps from reset
-first_cycle : (s : Setup) → (first_system s).cycle ≡ 0
+pub first_cycle : (s : Setup) → (first_system s).cycle ≡ 0
 unfolding first_system
 first_cycle s = refl
 
@@ -55,7 +59,7 @@ from_reset s ph ok n =
 
 -- the events of the machine are those of the history
 pub has_events : (s : Setup) → Phases s → IsPlaced s → HasEvents s
-has_events s ph ok n low = (from_reset s ph ok n).events
+has_events s ph ok n = (from_reset s ph ok n).events
 
 -- ---- the invariant before cycle c, for the story below c
 
@@ -78,22 +82,26 @@ before s ph ok c =
     }
 
 -- the phase is the item that is admitted below c and not done below it
-phase_early : (s : Setup) (t : ℕ) (h : Story) (limit c phase : ℕ) → PhaseAt s limit t h c phase → t < c
+pub phase_early : (s : Setup) (t : ℕ) (h : Story) (limit c phase : ℕ) → PhaseAt s limit t h c phase → t < c
 phase_early s t h limit c phase (fresh e at) = omega (arith, at)
 phase_early s t h limit c phase (later e less _) = omega (arith, less)
 phase_early s t h limit c phase (found e two less done) = omega (arith, less)
 
--- the item in the stage is the one that is open in the history
-open_is : (s : Setup) (c : ℕ) (h : Story) (o : Option ℕ) (id : IdState) (md : MulDivUnit) (ls : Lsu) (p : PortState)
-    → StageAt s c h o c id md ls p → open_item s c h ≡ o
-open_is s c h None id md ls p u =
-    let late : c ≤ admission s c h = omega (
+-- where the stage has none, none is admitted before this cycle
+pub none_late : (s : Setup) (limit c : ℕ) (h : Story) (id : IdState) (md : MulDivUnit) (ls : Lsu) (p : PortState)
+    → StageAt s limit h None c id md ls p → c ≤ admission s limit h
+none_late s limit c h id md ls p u =
+    omega (
       arith,
       u.search,
-      first_not_before (c - c) (λ t. is_ready (kind_at (settings_of s) h.times t) (words_there s h t))
-          c,
-    ) in
-    rw (le-ltb (admission s c h) c late) refl
+      first_after (limit - c) (λ t. is_ready (kind_at (settings_of s) h.times t) (words_there s h t)) c,
+    )
+
+-- the item in the stage is the one that is open in the history
+pub open_is : (s : Setup) (c : ℕ) (h : Story) (o : Option ℕ) (id : IdState) (md : MulDivUnit) (ls : Lsu) (p : PortState)
+    → StageAt s c h o c id md ls p → open_item s c h ≡ o
+open_is s c h None id md ls p u =
+    rw (le-ltb (admission s c h) c (none_late s c c h id md ls p u)) refl
 open_is s c h (Some t) id md ls p f =
     rw (f.admitted_at, lt-ltb t c (phase_early s t h c c id.phase f.phase)) refl
 
@@ -142,7 +150,7 @@ shows_by s c h o q st i at stage =
 
 -- so before each cycle the fields show the history
 pub shows_history : (s : Setup) → Phases s → IsPlaced s → ShowsHistory s
-shows_history s ph ok c low =
+shows_history s ph ok c =
     let b : Before s c (told_below s c).story (system_at s c) = before s ph ok c in
     let st : System = system_at s c in
     shows_by s c (told_below s c).story b.phase b.count st b.inv b.cycle
@@ -152,20 +160,20 @@ shows_history s ph ok c low =
 -- ---- the words
 
 -- with the invariant the registers and the words of RAM are the codewords of the history's values
-holds_by : (s : Setup) (c : ℕ) (h : Story) (o : Option ℕ) (q : ℕ) (st : System) → Inv s c h o q st → st.cycle ≡ c
-    → open_item s c h ≡ o → HoldsWords s c st.regs st.mem.words h (with_item s h (open_item s c h))
-holds_by s c h o q st i at same =
-    let memory : MemoryAt s (with_item s h (open_item s c h)) c st.mem =
-    subst (λ d. MemoryAt s (with_item s h (open_item s c h)) d st.mem) at
-    (subst (λ z. MemoryAt s (with_item s h z) st.cycle st.mem) (sym same) i.memory) in
-    record { regs = i.tied.regs_are; words = λ n low. memory.words n (omega (arith, low, memory.size)) }
+holds_by : (s : Setup) (c : ℕ) (o : Option ℕ) (q : ℕ) (st : System) → Inv s c (told_below s c).story o q st
+    → st.cycle ≡ c → open_item s c (told_below s c).story ≡ o → HoldsRegisters s c st.regs × HoldsRam s c st.mem.words
+holds_by s c o q st i at same =
+    let memory : MemoryAt s (story_at s c) c st.mem =
+    subst (λ d. MemoryAt s (story_at s c) d st.mem) at
+    (subst (λ z. MemoryAt s (with_item s (told_below s c).story z) st.cycle st.mem) (sym same) i.memory) in
+    (i.tied.regs_are, λ n low. memory.words n (omega (arith, low, memory.size)))
 
 -- so they are before each cycle of a run from reset
 pub holds_values : (s : Setup) → Phases s → IsPlaced s → HoldsValues s
-holds_values s ph ok c low =
+holds_values s ph ok c =
     let b : Before s c (told_below s c).story (system_at s c) = before s ph ok c in
     let st : System = system_at s c in
-    holds_by s c (told_below s c).story b.phase b.count st b.inv b.cycle
+    holds_by s c b.phase b.count st b.inv b.cycle
     (open_is s c (told_below s c).story b.phase st.main.id st.main.md st.main.ls st.dport
     (subst (λ d. StageAt s c (told_below s c).story b.phase d st.main.id st.main.md st.main.ls st.dport) b.cycle
     b.inv.stage))
@@ -202,7 +210,7 @@ quiet_by s ph ok limit h o q st i =
 
 -- so no cycle of a run from reset raises an alert
 pub is_quiet : (s : Setup) → Phases s → IsPlaced s → IsQuiet s
-is_quiet s ph ok c low =
+is_quiet s ph ok c =
     let b : Before s c (told_below s c).story (system_at s c) = before s ph ok c in
     quiet_by s ph ok c (told_below s c).story b.phase b.count (system_at s c) b.inv
 
@@ -248,7 +256,7 @@ told_all s limit c fuel h x st at f =
     (omega (arith, at, not_before s limit h f.phase st.cycle st.main.id st.main.md st.main.ls st.dport f.inv.stage)))
 
 -- an item that is done is told, and the rest after it
-told_next : (s : Setup) (limit fuel t : ℕ) (h : Story) → admission s limit h ≡ t → done_at s limit t h < limit
+pub told_next : (s : Setup) (limit fuel t : ℕ) (h : Story) → admission s limit h ≡ t → done_at s limit t h < limit
     → (told s limit (suc fuel) h).story ≡ (told s limit fuel (continued s limit t h)).story
 told_next s limit fuel t h e less = ap (λ (r : Told). r.story) (one_more s limit fuel t h e less)
 
@@ -290,7 +298,7 @@ last_line s ph ok limit (suc n) (suc fuel) h o q st i at enough =
 -- so the wires of each cycle are those of the history
 pub has_wires : (s : Setup) → Phases s → IsPlaced s → HasWires s
 unfolding bus_line
-has_wires s ph ok c low =
+has_wires s ph ok c =
     let h : Story = (told_below s (c + 1)).story in
     let y : Story = with_item s h (open_item s (c + 1) h) in
     let x : Display = shown_of s (system_at s c) in

@@ -1,7 +1,7 @@
 -- A redirect, and a cycle without an event, on the fetch side.
 use Rattle.std.proofs.Common.{◌≡◌, ℕ, zero, suc, ◌+◌, ◌*◌, ◌/◌, ◌%◌, ◌^◌, ◌<◌, ◌≤◌, Bool, true, false, not, ◌&&◌, ◌||◌}
-use Rattle.std.proofs.Common.{List, [], ◌∷◌, nat_lt, Some, sym, refl, ap, ◌∙◌, subst, arith}
-use Rattle.std.proofs.lemmas.Bool.{lt-ltb, lt-leb}
+use Rattle.std.proofs.Common.{List, [], ◌∷◌, Some, sym, refl, ap, ◌∙◌, subst, arith}
+use Rattle.std.proofs.lemmas.Bool.{lt-ltb}
 use Rattle.ibx_icache.specs.WordPort.{marked}
 use Rattle.ibx_icache.specs.Doing.{doing_of, is_rest}
 use Rattle.ibx_icache.specs.declared.port.WordPort.{WordPort}
@@ -12,6 +12,7 @@ use Rattle.ibx_time_invariant.proofs.Links.{idle, AreGranted, Cached, IsSent, Li
 use Rattle.ibx_time_invariant.proofs.Links.{filled, first_asks, first_waits, last, looks, pending, second_asks, second_waits}
 use Rattle.ibx_time_invariant.proofs.Fetches.{Count, dropped, rest}
 use Rattle.ibx_time_invariant.proofs.Caches.{IsLog, IsOld, IsRecent, walks}
+use Rattle.ibx_time.proofs.Walks.{between_more}
 use Rattle.ibx_time_invariant.proofs.Words.{WordsMid}
 use Rattle.ibx_time_invariant.proofs.FetchSide.{FetchRests, FetchTurns}
 use Rattle.ibx_time_invariant.proofs.Runs.{before}
@@ -168,19 +169,6 @@ fetch_turns s log x half q c target fence enable next f w p tags lines v even lo
     (restarted s log x half q c target fence enable next f w p tags lines v even low)
 
 -- ---- a cycle without an event
-
--- what is before a cycle is before the next one: FENCE.I, fills, and the cache's words
-pub log_more : (fs : List ℕ) (c d : ℕ) → c ≤ d → IsLog fs c → IsLog fs d
-log_more [] c d h l = tt
-log_more (f ∷ fs) c d h l = (omega (arith, l.0), l.1)
-
--- where all FENCE.Is are before this cycle, one cycle more leaves a span as free of them as it was
-pub between_more : (fs : List ℕ) (a c : ℕ) → IsLog fs c → none_between fs a c ≡ none_between fs a (c + 1)
-unfolding none_between
-between_more [] a c l = refl
-between_more (f ∷ fs) a c l =
-    rw (lt-leb c f l.0, lt-leb (c + 1) f (omega (arith, l.0)))
-    (ap (λ b. (nat_lt f a || false) && b) (between_more fs a c (log_more fs (f + 1) c (omega (arith, l.0)) l.1)))
 
 -- fills that were stored before a cycle were stored before the next one
 pub old_more : (fills : List Fill) (c : ℕ) → IsOld fills c → IsOld fills (c + 1)

@@ -1,3 +1,5 @@
 pub mod Core
+pub mod Words
+pub mod Shown
 pub mod System
 pub mod Whole

@@ -1,6 +1,6 @@
 -- The system: the core, its words, memory and the ports; a step of it, and a run. Our own rule.
-use Rattle.std.specs.Prelude.{ℕ, zero, suc, ◌+◌, ◌*◌, ◌/◌, ◌%◌, Bool, false, List, [], ◌∷◌, replicate, slice_index}
-use Rattle.std.specs.Prelude.{slice_set, Option, Some, None}
+use Rattle.std.specs.Prelude.{ℕ, zero, suc, ◌+◌, ◌/◌, Bool, false, List, [], ◌∷◌, replicate, slice_index}
+use Rattle.std.specs.Prelude.{Option, Some, None}
 use Rattle.ibx_isa.specs.declared.bus.Req.{Req}
 use Rattle.ibx_isa.specs.declared.event.Event.{Event}
 use Rattle.ibx_isa.specs.declared.event.Event.TheVariants.{Retire, Trap, Irq}
@@ -15,13 +15,13 @@ use Rattle.ibx_time.specs.Settings.{Setup, settings_of, lines_in}
 use Rattle.ibx_dummy.specs.Dummies.{dummies_reset}
 use Rattle.ibx_time_machine.specs.Core.{Out, core_out_by}
 use Rattle.ibx_prefetch.specs.Buffer.{fetch_reset}
-use Rattle.ibx_icache.specs.declared.writes.Filling.{Filling}
 use Rattle.ibx_icache.specs.WordPort.{reset_of as port_reset, looked}
-use Rattle.ibx_icache.specs.declared.writes.Filling.TheVariants.{Nothing, Clears, Stores}
 use Rattle.ibx_id.specs.Turns.{empty_stage}
 use Rattle.ibx_core.specs.declared.state.State.{State as Core}
 use Rattle.ibx_core.specs.Sights.{ra_of, rb_of}
 use Rattle.ibx_core.specs.Core.{Cycle, cycle_of, next_by}
+use Rattle.ibx_time.specs.Runs.{with_event}
+use Rattle.ibx_time_machine.specs.Words.{look_at, put_lines, put_reg, put_tags}
 use Rattle.ibx_core.specs.Inputs.{Inputs}
 
 -- the core, the register words, the cache's tags and data words, memory, both ports, and the number of the cycle
@@ -66,14 +66,6 @@ first_system s = record {
   cycle = 0;
 }
 
--- the first slot of a set, and the data word of a slot at an address
-abbrev pub set_slot : ℕ → ℕ
-set_slot addr = addr / 8 % 256 * 2
-
--- a slot has two data words, and bit 2 of the address selects one
-abbrev pub line_place : ℕ → ℕ → ℕ
-line_place slot addr = slot * 2 + addr / 4 % 2
-
 -- the wires into the core; the grants stay low until its requests are known
 unfoldable pub in_of : Setup → System → Inputs
 in_of s x = record {
@@ -83,31 +75,10 @@ in_of s x = record {
   dgrant = false;
   rega = slice_index x.regs (ra_of x.main.id);
   regb = slice_index x.regs (rb_of x.main.id);
-  look = (let addr = looked x.main.words in record {
-    tag0 = slice_index x.tags (set_slot addr);
-    tag1 = slice_index x.tags (set_slot addr + 1);
-    data0 = slice_index x.lines (line_place (set_slot addr) addr);
-    data1 = slice_index x.lines (line_place (set_slot addr + 1) addr);
-  });
+  look = look_at x.tags x.lines (looked x.main.words);
   lines = lines_in (settings_of s) x.cycle;
   mul = s.mul;
 }
-
--- a register write is stored as a codeword
-abbrev pub put_reg : Option (ℕ × ℕ) → List ℕ → List ℕ
-put_reg None regs = regs
-put_reg (Some (n, value)) regs = slice_set regs n (encode_of 32 7 value)
-
--- the tags after the cache's write: clearing a set makes both its tags invalid
-abbrev pub put_tags : Filling → List ℕ → List ℕ
-put_tags Nothing tags = tags
-put_tags (Clears set) tags = slice_set (slice_set tags (2 * set) 0xa800000) (2 * set + 1) 0xa800000
-put_tags (Stores slot tag word0 word1) tags = slice_set tags slot tag
-
--- the data words after it: storing a line writes both words of its slot
-abbrev pub put_lines : Filling → List ℕ → List ℕ
-put_lines (Stores slot tag word0 word1) lines = slice_set (slice_set lines (2 * slot) word0) (2 * slot + 1) word1
-put_lines _ lines = lines
 
 -- the ports take the wires, the instruction port first
 unfoldable pub system_by : Cycle → Out → Inputs → System → System
@@ -159,11 +130,6 @@ next_from c i x = system_by c (core_out_by c x.main i) i x
 -- one step of the system, which is one cycle of the clock
 unfoldable pub system_next : Setup → System → System
 system_next s x = next_from (cycle_of x.main (in_of s x)) (in_of s x) x
-
--- the events of a run with that of an earlier step before them, where it has one
-abbrev pub with_event : Option Event → List Event → List Event
-with_event None events = events
-with_event (Some e) events = e ∷ events
 
 -- the events of n steps
 unfoldable pub run : Setup → ℕ → System → List Event

@@ -1,20 +1,18 @@
 -- The rows of CSR instructions, of MRET and of FENCE.I.
-use Rattle.std.proofs.Common.{◌≡◌, ℕ, ◌+◌, ◌-◌, ◌*◌, ◌%◌, ◌^◌, ◌<◌, Bool, true, false, not, Option, Some, None, refl}
-use Rattle.std.proofs.Common.{sym, ap, ap₂, subst, ◌∙◌, arith}
+use Rattle.std.proofs.Common.{◌≡◌, ℕ, ◌+◌, ◌%◌, ◌^◌, Bool, true, false, not, Option, Some, None, refl}
+use Rattle.std.proofs.Common.{sym, ap, ap₂, ◌∙◌}
 use Rattle.std.specs.Prelude.{◌&&◌, ◌||◌, ◌==◌, if◌then◌else◌}
 use Rattle.std.proofs.lemmas.Bool.{eqb-true}
-use Rattle.std.proofs.lemmas.Nat.{and_le_r, mod_below, or_lt}
 use Rattle.ibx_isa.specs.declared.insn.Insn.{Insn}
 use Rattle.ibx_isa.specs.declared.insn.Insn.TheVariants.{Csr, FenceI, Mret}
 use Rattle.ibx_isa.specs.declared.insn.CsrOp.{CsrOp}
-use Rattle.ibx_isa.specs.declared.insn.CsrOp.TheVariants.{Write, Set, Clear}
 use Rattle.ibx_isa.specs.Views.{view_of}
 use Rattle.ibx_csr.specs.declared.name.Csr.{Csr as Name}
 use Rattle.ibx_csr.specs.declared.csrs.Csrs.{Csrs}
 use Rattle.ibx_csr.specs.Table.{readable}
 use Rattle.ibx_csr.specs.Fields.{tick_of, values, with_regs, write_of}
-use Rattle.ibx_csr.specs.Values.{CsrValues, counters_after, csr_can_write, csr_read, csr_tick, csr_write, trap_regs}
-use Rattle.ibx_csr.specs.Values.{value_at, value_of, with_trap_regs}
+use Rattle.ibx_csr.specs.Values.{CsrValues, csr_can_write, csr_read, csr_tick, csr_write, trap_regs}
+use Rattle.ibx_csr.specs.Values.{value_at, with_trap_regs}
 use Rattle.ibx_csr.proofs.Laws.{write-values}
 use Rattle.ibx_csr.proofs.Sound.{write-sound}
 use Rattle.ibx_trap.specs.Traps.{leave_of}
@@ -26,25 +24,20 @@ use Rattle.ibx_arch.specs.State.{reg}
 use Rattle.ibx_arch.specs.Step.{Stepped, finished, operands}
 use Rattle.ibx_isa.specs.Sources.{source1}
 use Rattle.ibx_time.specs.Settings.{lines_in, settings_of}
-use Rattle.ibx_time.specs.Controls.{Ctl, ctl_left, ctl_of, ctl_retired, ctl_written}
 use Rattle.ibx_time.specs.Dummies.{seed_by}
 use Rattle.ibx_dummy.specs.Dummies.{seeded}
 use Rattle.ibx_dummy.specs.declared.unit.Dummy.{Dummy}
 use Rattle.ibx_time.specs.Items.{Item, parcels_of, plain, retired_item}
-use Rattle.ibx_time.proofs.Controls.{ctl_of-counters, ctl_of-tick, ctl_of-write}
-use Rattle.ibx_time_invariant.proofs.Ties.{IsValues}
 use Rattle.ibx_time_decode.proofs.Fetches.{handed, returned}
-use Rattle.ibx_time_retire.proofs.Csr.{write_idle, seed_controls}
 use Rattle.ibx_time_retire.proofs.Irq.{regs_are, regs_complement, ticked_complement}
-use Rattle.ibx_time_retire.proofs.Insn.{Case, Ended, Holds, Known, Meets, any_ends, effect_now, length_is, next_is}
-use Rattle.ibx_time_retire.proofs.Insn.{no_trap_phase, now, retire_kind, retire_step, retire_word, row_item}
-use Rattle.ibx_time_retire.proofs.Insn.{tick_of_core, ticked_ctl}
-use Rattle.ibx_time_retire.proofs.Plain.{low_reg, next_even}
+use Rattle.ibx_time_retire.proofs.Insn.{Case, Ended, Holds, Known, Meets, any_ends, effect_now, next_is}
+use Rattle.ibx_time_retire.proofs.Insn.{no_trap_phase, now, retire_step, row_item}
+use Rattle.ibx_time_retire.proofs.Insn.{tick_of_core}
 use Rattle.ibx_time_retire.proofs.Simple.{RowEnds, illegal_ends}
-use Rattle.ibx_time_retire.proofs.Values.{later_values, tick_values, trap_values, value_low, write_values}
 use Rattle.ibx_csr.specs.Bits.{is_control_at}
 use Rattle.ibx_core.specs.Sights.{cause_of, lacks_value, access_by, row_cause, csr_cause}
 use Rattle.ibx_core.specs.Effects.{csr_value, retires, ticked, outcome_by, plain_outcome, csr_outcome, csr_written}
+use Rattle.ibx_csr.specs.Table.{csr_of}
 use Rattle.ibx_time_retire.proofs.Rows.{retires_as, retires_to}
 
 -- ---- FENCE.I
@@ -63,30 +56,20 @@ row_of_item m word insn p =
 abbrev now_values : Case → CsrValues
 now_values m = csr_tick (now m).csrs true None
 
--- they keep their widths
-pub values_now : (m : Case) (wrote : Option ℕ) → Known m → IsValues (csr_tick (now m).csrs true wrote)
-values_now m wrote k =
-    tick_values (now m).csrs true wrote (later_values m.h.state.csrs (m.c - m.h.state.stands) k.good.csrs)
-
 -- FENCE.I ends as its step
 pub fencei_ends : (m : Case) (word len lines : ℕ) → RowEnds m word len lines FenceI
-unfolding execute finished outcome_by plain_outcome retired_item access_by
+unfolding execute finished outcome_by plain_outcome retired_item access_by view_of
 fencei_ends m word len lines k t hd =
     let next : ℕ = (m.h.state.pc + len) % 2 ^ 32 in
     let item : m.i ≡ row_of_item m word FenceI (fence_step m word len) =
-    t.item ∙ row_item (settings_of m.s) m.h.times.ctl (view_of (fence_step m word len).event) word FenceI
-    (retire_kind m word FenceI m.h.state.memory (now_values m) 0 0 None None next)
-    (retire_word m word FenceI m.h.state.memory (now_values m) 0 0 None None next) hd.insn_is in
+    t.item ∙ row_item (settings_of m.s) m.h.times.ctl (view_of (fence_step m word len).event) word FenceI refl refl
+    hd.insn_is in
     any_ends m word len 0 0 next FenceI None None m.h.state.memory (now_values m) (ticked m.core) m.core.dummies true
     m.i.redirects
-    k t hd hd.access (tick_of_core m k) (ticked_complement m.core.csrs true None k.complemented) (values_now m None k)
+    k t hd hd.access (tick_of_core m k) (ticked_complement m.core.csrs true None k.complemented)
     (ap (λ x. retires_to m.core m.g m.i.redirects 0 0 None x (ticked m.core) m.core.dummies true)
     (next_is m word len k hd.word_is hd.len_is))
-    refl (sym (ap (λ (j : Item). j.fences) item)) k.dummies (ticked_ctl m k)
-    (λ q. length_is m.h.state.pc len word hd.len_is
-    ∙ ap (λ n. (m.h.state.pc + 2 * n) % 2 ^ 32) (sym (ap (λ (j : Item). j.parcels) item)))
-    (k.memory (ap (λ (j : Item). j.portions) item)) k.good.ram_is k.good.bytes (omega arith)
-    (next_even m.h.state.pc len word hd.len_is k.good.pc_even) (mod_below (m.h.state.pc + len) (2 ^ 32) (omega arith))
+    refl (sym (ap (λ (j : Item). j.fences) item)) k.dummies
 
 -- ---- MRET
 
@@ -105,25 +88,12 @@ left_values m = with_trap_regs (csr_tick (now m).csrs true None) (leave_of (trap
 abbrev left_fields : Case → Csrs
 left_fields m = with_regs (ticked m.core) (leave_of (trap_regs (values m.core.csrs)))
 
--- these are the same, within their widths
+-- these are the same
 left_is : (m : Case) → Known m → values (left_fields m) ≡ left_values m
 left_is m k =
     regs_are (ticked m.core) (leave_of (trap_regs (values m.core.csrs)))
     ∙ ap (λ w. with_trap_regs w (leave_of (trap_regs (values m.core.csrs)))) (tick_of_core m k)
     ∙ ap (λ w. with_trap_regs (csr_tick (now m).csrs true None) (leave_of (trap_regs w))) k.csrs
-
--- MRET leaves each register within its width
-left_low : (m : Case) → Known m → IsValues (left_values m)
-unfolding leave_of
-left_low m k = trap_values (csr_tick (now m).csrs true None) _ (values_now m None k)
-    (later_values m.h.state.csrs (m.c - m.h.state.stands) k.good.csrs).mtval
-
--- MRET leaves of the registers that time depends on what it leaves of them alone
-left_ctl : (v : CsrValues) (n : ℕ)
-    → ctl_left (ctl_of v) ≡ ctl_of (with_trap_regs (csr_tick (counters_after v n) true None)
-    (leave_of (trap_regs (counters_after v n))))
-unfolding counters_after csr_tick with_trap_regs leave_of
-left_ctl v n = refl
 
 -- mepc is that of the fields
 mepc_is : (m : Case) → Known m → m.core.csrs.mepc ≡ (now m).csrs.mepc
@@ -146,26 +116,20 @@ back_cause m k e = ap (λ (w : CsrValues). cause_by w.machine) k.csrs ∙ ap cau
 -- MRET ends as its step, by its mode: a trap in U mode, else a return to mepc
 back_by : (m : Case) (word len : ℕ) (b : Bool) → (now m).csrs.machine ≡ b → Known m → Meets m (back_step m word b)
     → Holds m word len Mret (view_of (back_step m word b).event) → Ended m (effect_now m) (back_step m word b)
-unfolding finished outcome_by plain_outcome retired_item access_by
+unfolding finished outcome_by plain_outcome retired_item access_by view_of
 back_by m word len false e k t hd =
-    illegal_ends m word (operands (now m) Mret) k t (hd.cause ∙ back_cause m k e) hd.fetched hd.word_low
+    illegal_ends m word (operands (now m) Mret) k t (hd.cause ∙ back_cause m k e) hd.fetched
 back_by m word len true e k t hd =
     let next : ℕ = (now m).csrs.mepc in
     let p : Stepped = retire_step m word Mret m.h.state.memory (left_values m) 0 0 None None next in
     let item : m.i ≡ row_of_item m word Mret p =
-    t.item ∙ row_item (settings_of m.s) m.h.times.ctl (view_of p.event) word Mret
-    (retire_kind m word Mret m.h.state.memory (left_values m) 0 0 None None next)
-    (retire_word m word Mret m.h.state.memory (left_values m) 0 0 None None next) hd.insn_is in
-    let iv : IsValues (now m).csrs = later_values m.h.state.csrs (m.c - m.h.state.stands) k.good.csrs in
+    t.item ∙ row_item (settings_of m.s) m.h.times.ctl (view_of p.event) word Mret refl refl hd.insn_is in
     any_ends m word len 0 0 next Mret None None m.h.state.memory (left_values m) (left_fields m) m.core.dummies false
     m.i.redirects
     k t hd hd.access (left_is m k) (regs_complement (ticked m.core) (leave_of (trap_regs (values m.core.csrs)))
-    (ticked_complement m.core.csrs true None k.complemented)) (left_low m k)
+    (ticked_complement m.core.csrs true None k.complemented))
     (ap (λ x. retires_as m.core m.g m.i.redirects 0 0 None x (left_fields m)) (mepc_is m k))
     refl (sym (ap (λ (j : Item). j.fences) item)) k.dummies
-    (ap ctl_left k.ctl ∙ left_ctl m.h.state.csrs (m.c - m.h.state.stands))
-    (λ q. apart (sym (ap (λ (j : Item). j.redirects) item) ∙ q))
-    (k.memory (ap (λ (j : Item). j.portions) item)) k.good.ram_is k.good.bytes (omega arith) iv.mepc_even iv.mepc
 
 -- so MRET ends as its step
 pub mret_ends : (m : Case) (word len lines : ℕ) → RowEnds m word len lines Mret
@@ -173,12 +137,6 @@ unfolding execute return_from_trap
 mret_ends m word len lines k t hd = back_by m word len (now m).csrs.machine refl k t hd
 
 -- ---- CSR instructions
-
--- what is written is a word
-written_low : (op : CsrOp) (old source : ℕ) → old < 2 ^ 32 → source < 2 ^ 32 → written op old source < 2 ^ 32
-written_low Write old source l k = k
-written_low Set old source l k = or_lt 32 old source l k
-written_low Clear old source l k = omega (arith, and_le_r old (2 ^ 32 - 1 - source))
 
 -- a register is there or not whatever the lines
 lacks_by : (v : CsrValues) (la lb : ℕ) (o : Option Name)
@@ -191,18 +149,10 @@ lacks_same : (v : CsrValues) (addr la lb : ℕ) → lacks_value (csr_read v addr
 unfolding csr_read
 lacks_same v addr la lb = lacks_by v la lb (readable v.machine addr)
 
--- what is read is a word
-old_by : (v : CsrValues) (lines old : ℕ) (o : Option Name) → IsValues v → lines < 2 ^ 32
-    → value_at v lines o ≡ Some old → old < 2 ^ 32
-old_by v lines old None i l e = absurd cc
-old_by v lines old (Some c) i l e =
-    subst (λ x. x < 2 ^ 32) (let q : value_of v c lines ≡ old = cc in q) (value_low v c lines i l)
-
--- so what a CSR instruction reads at an address is a word
-old_low : (v : CsrValues) (addr lines old : ℕ) → IsValues v → lines < 2 ^ 32 → csr_read v addr lines ≡ Some old
-    → old < 2 ^ 32
-unfolding csr_read
-old_low v addr lines old i l e = old_by v lines old (readable v.machine addr) i l e
+-- secureseed controls the core
+seed_controls : is_control_at 0x7c1 ≡ true
+unfolding csr_of
+seed_controls = refl
 
 -- a write of secureseed alone changes the dummies, and one of a control register the registers that time depends on
 seed_is : (d : Dummy) (op : CsrOp) (rd src value addr : ℕ) (imm control : Bool) → is_control_at addr ≡ control
@@ -214,15 +164,6 @@ seed_is d op rd src value addr imm false e = no_seed (addr == 0x7c1) refl
     no_seed : (b : Bool) → (addr == 0x7c1) ≡ b → (if b then seeded value d else d) ≡ d
     no_seed false q = refl
     no_seed true q = apart (sym (ap is_control_at (eqb-true addr 0x7c1 q) ∙ seed_controls) ∙ e)
-
--- times and registers agree after a CSR instruction on all that time depends on
-control_is : (v : CsrValues) (c : Ctl) (op : CsrOp) (rd src value addr : ℕ) (imm control : Bool)
-    → is_control_at addr ≡ control → c ≡ ctl_of v
-    → ctl_retired c (Some (Csr op rd src imm addr)) (if control then Some value else None)
-    ≡ ctl_of (csr_write v addr value)
-control_is v c op rd src value addr imm true e k =
-    ap (λ x. ctl_written x addr value) k ∙ sym (ctl_of-write v addr value)
-control_is v c op rd src value addr imm false e k = k ∙ sym (write_idle v addr value e)
 
 -- the step of a CSR instruction
 abbrev csr_step : Case → ℕ → Insn → Executed → Stepped
@@ -314,7 +255,7 @@ fields_are m addr value k =
 -- a CSR that is there, and one that may not be, end as the step
 csr_some : (m : Case) (word len : ℕ) (op : CsrOp) (rd src addr source old : ℕ) (imm w can : Bool)
     → writes op src ≡ w → csr_can_write (now m).csrs addr ≡ can
-    → csr_read (now m).csrs addr (lines_in (settings_of m.s) m.c) ≡ Some old → source < 2 ^ 32
+    → csr_read (now m).csrs addr (lines_in (settings_of m.s) m.c) ≡ Some old
     → (m.g.a ≡ reg m.h.state (source1 (Csr op rd src imm addr)) → (if imm then src else m.g.a) ≡ source) → Known m
     → Meets m (csr_step m word (Csr op rd src imm addr)
     (csr_result m op rd source addr word ((m.h.state.pc + len) % 2 ^ 32) old w can))
@@ -323,73 +264,51 @@ csr_some : (m : Case) (word len : ℕ) (op : CsrOp) (rd src addr source old : �
     (csr_result m op rd source addr word ((m.h.state.pc + len) % 2 ^ 32) old w can)).event)
     → Ended m (effect_now m) (csr_step m word (Csr op rd src imm addr)
     (csr_result m op rd source addr word ((m.h.state.pc + len) % 2 ^ 32) old w can))
-unfolding finished csr_written plain_outcome access_by
-csr_some m word len op rd src addr source old imm false can ew ec eo ls es k t hd =
+unfolding finished csr_written plain_outcome access_by view_of
+csr_some m word len op rd src addr source old imm false can ew ec eo es k t hd =
     let insn : Insn = Csr op rd src imm addr in
     let next : ℕ = (m.h.state.pc + len) % 2 ^ 32 in
     let csrs : CsrValues = now_values m in
     let p : Stepped = retire_step m word insn m.h.state.memory csrs rd old None None next in
-    let kind : (view_of p.event).kind ≡ 0 = retire_kind m word insn m.h.state.memory csrs rd old None None next in
     let item : m.i ≡ plain (parcels_of word) =
-    csr_item m word op rd src addr imm p t kind (retire_word m word insn m.h.state.memory csrs rd old None None next)
-    hd.insn_is in
-    let ops = hd.operands_are (no_trap_phase (view_of p.event) kind) in
+    csr_item m word op rd src addr imm p t refl refl hd.insn_is in
+    let ops = hd.operands_are (no_trap_phase (view_of p.event) refl) in
     any_ends m word len rd old next insn None None m.h.state.memory csrs (ticked m.core) m.core.dummies false
     m.i.redirects
-    k t hd hd.access (tick_of_core m k) (ticked_complement m.core.csrs true None k.complemented) (values_now m None k)
+    k t hd hd.access (tick_of_core m k) (ticked_complement m.core.csrs true None k.complemented)
     (csr_effect m op rd src addr source old next imm false m.i.redirects ew (value_is m addr old k eo) (es ops.0)
-    ∙ ap (λ x. retires_as m.core m.g m.i.redirects rd old None x (ticked m.core)) (next_is m word len k hd.word_is hd.len_is))
-    refl (sym (ap (λ (j : Item). j.fences) item)) k.dummies (ticked_ctl m k)
-    (λ q. length_is m.h.state.pc len word hd.len_is
-    ∙ ap (λ n. (m.h.state.pc + 2 * n) % 2 ^ 32) (sym (ap (λ (j : Item). j.parcels) item)))
-    (k.memory (ap (λ (j : Item). j.portions) item)) k.good.ram_is k.good.bytes
-    (old_low (now m).csrs addr (lines_in (settings_of m.s) m.c) old
-    (later_values m.h.state.csrs (m.c - m.h.state.stands) k.good.csrs) k.lines_low eo)
-    (next_even m.h.state.pc len word hd.len_is k.good.pc_even) (mod_below (m.h.state.pc + len) (2 ^ 32) (omega arith))
-csr_some m word len op rd src addr source old imm true false ew ec eo ls es k t hd =
+    ∙ ap (λ x. retires_as m.core m.g m.i.redirects rd old None x (ticked m.core))
+    (next_is m word len k hd.word_is hd.len_is))
+    refl (sym (ap (λ (j : Item). j.fences) item)) k.dummies
+csr_some m word len op rd src addr source old imm true false ew ec eo es k t hd =
     illegal_ends m word (operands (now m) (Csr op rd src imm addr)) k t
-    (hd.cause ∙ cause_denied m op rd src addr imm k ew ec) hd.fetched hd.word_low
-csr_some m word len op rd src addr source old imm true true ew ec eo ls es k t hd =
+    (hd.cause ∙ cause_denied m op rd src addr imm k ew ec) hd.fetched
+csr_some m word len op rd src addr source old imm true true ew ec eo es k t hd =
     let insn : Insn = Csr op rd src imm addr in
     let next : ℕ = (m.h.state.pc + len) % 2 ^ 32 in
     let value : ℕ = written op old source in
     let ctlw : Option ℕ = if is_control_at addr then Some value else None in
     let csrs : CsrValues = written_values m addr value in
     let p : Stepped = retire_step m word insn m.h.state.memory csrs rd old None ctlw next in
-    let kind : (view_of p.event).kind ≡ 0 = retire_kind m word insn m.h.state.memory csrs rd old None ctlw next in
     let item : m.i ≡ plain (parcels_of word) =
-    csr_item m word op rd src addr imm p t kind (retire_word m word insn m.h.state.memory csrs rd old None ctlw next)
-    hd.insn_is in
-    let ops = hd.operands_are (no_trap_phase (view_of p.event) kind) in
-    let low : old < 2 ^ 32 = old_low (now m).csrs addr (lines_in (settings_of m.s) m.c) old
-    (later_values m.h.state.csrs (m.c - m.h.state.stands) k.good.csrs) k.lines_low eo in
+    csr_item m word op rd src addr imm p t refl refl hd.insn_is in
+    let ops = hd.operands_are (no_trap_phase (view_of p.event) refl) in
     let dd : Dummy = if addr == 0x7c1 then seeded value m.core.dummies else m.core.dummies in
     any_ends m word len rd old next insn None ctlw m.h.state.memory csrs (written_fields m addr value) dd false
     m.i.redirects
     k t hd hd.access (fields_are m addr value k)
     (write-sound (tick_of m.core.csrs true (Some addr)) addr value
     (ticked_complement m.core.csrs true (Some addr) k.complemented))
-    (write_values (csr_tick (now m).csrs true (Some addr)) addr value (values_now m (Some addr) k)
-    (written_low op old source low ls))
     (csr_effect m op rd src addr source old next imm true m.i.redirects ew (value_is m addr old k eo) (es ops.0)
     ∙ ap (λ x. retires_to m.core m.g m.i.redirects rd old ctlw x (written_fields m addr value) dd false)
     (next_is m word len k hd.word_is hd.len_is))
     refl (sym (ap (λ (j : Item). j.fences) item))
     (ap (λ x. if addr == 0x7c1 then seeded value x else x) k.dummies
     ∙ seed_is m.d op rd src value addr imm (is_control_at addr) refl)
-    (control_is (csr_tick (now m).csrs true (Some addr)) m.h.times.ctl op rd src value addr imm (is_control_at addr)
-    refl
-    (k.ctl ∙ sym (ctl_of-counters m.h.state.csrs (m.c - m.h.state.stands))
-    ∙ sym (ctl_of-tick (now m).csrs true (Some addr))))
-    (λ q. length_is m.h.state.pc len word hd.len_is
-    ∙ ap (λ n. (m.h.state.pc + 2 * n) % 2 ^ 32) (sym (ap (λ (j : Item). j.parcels) item)))
-    (k.memory (ap (λ (j : Item). j.portions) item)) k.good.ram_is k.good.bytes
-    low
-    (next_even m.h.state.pc len word hd.len_is k.good.pc_even) (mod_below (m.h.state.pc + len) (2 ^ 32) (omega arith))
 
 -- a CSR instruction ends as its step, by what is read: without a register it is illegal
 csr_by : (m : Case) (word len : ℕ) (op : CsrOp) (rd src addr source : ℕ) (imm : Bool) (o : Option ℕ)
-    → csr_read (now m).csrs addr (lines_in (settings_of m.s) m.c) ≡ o → source < 2 ^ 32
+    → csr_read (now m).csrs addr (lines_in (settings_of m.s) m.c) ≡ o
     → (m.g.a ≡ reg m.h.state (source1 (Csr op rd src imm addr)) → (if imm then src else m.g.a) ≡ source)
     → Known m → Meets m (csr_step m word (Csr op rd src imm addr)
     (csr_with (now m) op rd src source addr word ((m.h.state.pc + len) % 2 ^ 32) o))
@@ -398,16 +317,12 @@ csr_by : (m : Case) (word len : ℕ) (op : CsrOp) (rd src addr source : ℕ) (im
     (csr_with (now m) op rd src source addr word ((m.h.state.pc + len) % 2 ^ 32) o)).event)
     → Ended m (effect_now m) (csr_step m word (Csr op rd src imm addr)
     (csr_with (now m) op rd src source addr word ((m.h.state.pc + len) % 2 ^ 32) o))
-csr_by m word len op rd src addr source imm None eo ls es k t hd =
+csr_by m word len op rd src addr source imm None eo es k t hd =
     illegal_ends m word (operands (now m) (Csr op rd src imm addr)) k t
-    (hd.cause ∙ cause_lacks m op rd src addr imm k eo) hd.fetched hd.word_low
-csr_by m word len op rd src addr source imm (Some old) eo ls es k t hd =
-    csr_some m word len op rd src addr source old imm (writes op src) (csr_can_write (now m).csrs addr) refl refl eo ls
-    es k t hd
-
--- a register's number is a word
-source_word : (src : ℕ) → src < 32 → src < 2 ^ 32
-source_word src l = omega (arith, l)
+    (hd.cause ∙ cause_lacks m op rd src addr imm k eo) hd.fetched
+csr_by m word len op rd src addr source imm (Some old) eo es k t hd =
+    csr_some m word len op rd src addr source old imm (writes op src) (csr_can_write (now m).csrs addr) refl refl eo es
+    k t hd
 
 -- so every CSR instruction ends as its step
 pub csr_ends : (m : Case) (word len rd src addr : ℕ) (op : CsrOp) (imm : Bool)
@@ -415,8 +330,7 @@ pub csr_ends : (m : Case) (word len rd src addr : ℕ) (op : CsrOp) (imm : Bool)
 unfolding execute csr_access
 csr_ends m word len rd src addr op true k t hd =
     csr_by m word len op rd src addr src true (csr_read (now m).csrs addr (lines_in (settings_of m.s) m.c)) refl
-    (source_word src hd.well.1) (λ _. refl) k t hd
+    (λ _. refl) k t hd
 csr_ends m word len rd src addr op false k t hd =
     csr_by m word len op rd src addr (reg m.h.state src) false
-    (csr_read (now m).csrs addr (lines_in (settings_of m.s) m.c)) refl
-    (low_reg m.s.image.ram m.h.state src k.good hd.well.1) (λ e. e) k t hd
+    (csr_read (now m).csrs addr (lines_in (settings_of m.s) m.c)) refl (λ e. e) k t hd

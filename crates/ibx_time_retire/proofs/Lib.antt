@@ -1,14 +1,10 @@
 pub mod Frame
-pub mod Values
 pub mod Dummy
 pub mod Irq
 pub mod Traps
 pub mod Rows
-pub mod Csr
-pub mod Views
 pub mod Stage
 pub mod Insn
-pub mod Low
 pub mod Plain
 pub mod Simple
 pub mod Csrs

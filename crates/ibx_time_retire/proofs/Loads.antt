@@ -3,7 +3,6 @@
 use Rattle.std.proofs.Common.{◌≡◌, ℕ, ◌+◌, ◌-◌, ◌*◌, ◌/◌, ◌%◌, ◌^◌, ◌<◌, ◌≤◌, ◌⊎◌, inl, inr, Bool, true, false, not}
 use Rattle.std.proofs.Common.{◌&&◌, ◌==◌, if◌then◌else◌, refl, sym, ap, ap₂, ◌∙◌, subst, arith, Option, Some, None}
 use Rattle.std.proofs.lemmas.Bool.{cases_lt, eqb-true, eq-eqb, lt-ltb, le-ltb}
-use Rattle.std.proofs.lemmas.Nat.{mod_below}
 use Rattle.ibx_isa.specs.declared.insn.Insn.{Insn}
 use Rattle.ibx_isa.specs.declared.insn.Insn.TheVariants.{Load}
 use Rattle.ibx_isa.specs.declared.insn.LoadOp.{LoadOp}
@@ -16,23 +15,21 @@ use Rattle.ibx_isa.specs.Portions.{gather_of, loaded, pair_byte, portion_addr, s
 use Rattle.ibx_bits.specs.Bytes.{word_byte}
 use Rattle.ibx_bits.proofs.Bytes.{same_bytes}
 use Rattle.ibx_pmp.specs.declared.protection.AccessKind.TheVariants.{Read}
-use Rattle.ibx_elf.specs.Ram.{ram_has}
-use Rattle.ibx_arch.specs.Memory.{Memory, image_memory, is_mapped, read_byte, read_bytes}
+use Rattle.ibx_arch.specs.Memory.{Memory, is_mapped, read_byte, read_bytes}
 use Rattle.ibx_arch.specs.State.{State, reg}
 use Rattle.ibx_arch.specs.Access.{error_at, has_second, is_refused, refused_at}
 use Rattle.ibx_arch.specs.Effects.{execute, following, load, load_with}
 use Rattle.ibx_arch.specs.Step.{Stepped, finished}
 use Rattle.ibx_time.specs.Settings.{settings_of}
 use Rattle.ibx_time.specs.Items.{Item, parcels_of, plain, retired_item}
-use Rattle.ibx_time.specs.Memories.{memory_at}
+use Rattle.ibx_time.proofs.States.{read_low_byte}
 use Rattle.ibx_time_invariant.proofs.Stages.{view_phase}
 use Rattle.ibx_time_invariant.proofs.StageSide.{ending_by}
-use Rattle.ibx_time_retire.proofs.Insn.{Case, Ended, Holds, Known, Meets, effect_now, is_trap, length_is, next_is}
+use Rattle.ibx_time_retire.proofs.Insn.{Case, Ended, Holds, Known, Meets, effect_now, is_trap, next_is}
 use Rattle.ibx_time_retire.proofs.Insn.{no_trap_phase, now, retire_step, row_ends, row_item}
-use Rattle.ibx_time_retire.proofs.Low.{load_low}
-use Rattle.ibx_time_retire.proofs.Plain.{insn_step, next_even}
+use Rattle.ibx_time_retire.proofs.Plain.{insn_step}
 use Rattle.ibx_time_retire.proofs.Simple.{RowEnds}
-use Rattle.ibx_time_retire.proofs.Traps.{fails_does, trap_good, trapped}
+use Rattle.ibx_time_retire.proofs.Traps.{fails_does, trapped}
 use Rattle.ibx_memory.proofs.Lanes.{word_byte-bytes_number}
 use Rattle.ibx_core.specs.Effects.{access_or, effect_by, fails, portion_fails, ticked, following as next_of}
 use Rattle.ibx_core.specs.Sights.{stage_word, access_by}
@@ -41,7 +38,7 @@ use Rattle.ibx_time_retire.proofs.Rows.{retires_as}
 
 -- ---- the value of a load, from the words of its portions
 
--- a load has four bytes at most, which memory holds as bytes
+-- a load has four bytes at most
 size_few : (op : LoadOp) → size_of op ≤ 4
 size_few Lb = omega arith
 size_few Lh = omega arith
@@ -49,19 +46,12 @@ size_few Lw = omega arith
 size_few Lbu = omega arith
 size_few Lhu = omega arith
 
--- a byte that is read is below 256, since it is 0 outside RAM
-read_low : (memory : Memory) (a : ℕ) → ((x : ℕ) → memory.byte x < 256) → read_byte memory a < 256
-read_low memory a h = by (ram_has memory.ram a) (memory.byte a) (h a)
-  where
-    by : (b : Bool) (v : ℕ) → v < 256 → (if b then v else 0) < 256
-    by true v l = l
-    by false v l = omega arith
-
 -- byte k of a word is the one at its address
 word_in : (memory : Memory) (a k : ℕ) → ((x : ℕ) → memory.byte x < 256) → k < 4
     → word_byte (read_bytes memory a 4) k ≡ read_byte memory ((a + k) % 2 ^ 32)
 word_in memory a k h l =
-    word_byte-bytes_number (λ j. read_byte memory ((a + j) % 2 ^ 32)) (λ j. read_low memory ((a + j) % 2 ^ 32) h) k l
+    word_byte-bytes_number (λ j. read_byte memory ((a + j) % 2 ^ 32))
+    (λ j. read_low_byte memory ((a + j) % 2 ^ 32) h) k l
 
 -- a byte past the first word is in the second portion
 crosses : (addr size k : ℕ) → k < size → 4 ≤ addr % 4 + k → has_second addr size ≡ true
@@ -115,7 +105,7 @@ at_by false false p q at e = absurd (none at e)
     none : (y : ℕ) → None ≡ Some y → ⊥
     none y e = cc
 
--- protection and memory refuse at such an address, which is a word
+-- protection and memory refuse at such an address
 pub refused_place : (x : State) (addr size at : ℕ) → refused_at x.csrs addr size Read ≡ Some at → FailsAt addr at
 unfolding refused_at
 refused_place x addr size at e = record {
@@ -135,46 +125,30 @@ error_place memory addr size at e =
           at e;
     }
 
--- the address of a portion that fails is a word, since the second wraps round
-pub place_low : (addr at : ℕ) → addr < 2 ^ 32 → FailsAt addr at → at < 2 ^ 32
-place_low addr at l f = by f.place
-  where
-    by : (at ≡ addr) ⊎ (at ≡ portion_addr addr true) → at < 2 ^ 32
-    by (inl e) = omega (arith, l, e)
-    by (inr e) = omega (arith, e)
-
 -- so a portion that fails ends as its step
 portion_ended : (m : Case) (word cause tval : ℕ) (ops : Option (ℕ × ℕ)) (memory : Memory) (w : Access) (second : Bool)
     → Known m → Meets m (trapped m.h.state m.c word ops memory cause tval w.addr)
     → effect_now m ≡ portion_fails m.core w second → (if w.store then 7 else 5) ≡ cause
     → portion_addr w.addr second ≡ tval → (if cause == 1 then 0 else stage_word m.core.id) ≡ word
-    → memory ≡ memory_at (image_memory m.s.image) m.ws m.c → memory.ram ≡ m.s.image.ram
-    → ((a : ℕ) → memory.byte a < 256) → tval < 2 ^ 32
     → Ended m (effect_now m) (trapped m.h.state m.c word ops memory cause tval w.addr)
 unfolding view_of portion_fails fails
-portion_ended m word cause tval ops memory w second k t e ec et ew em er eb low =
+portion_ended m word cause tval ops memory w second k t e ec et ew =
     let p : Stepped = trapped m.h.state m.c word ops memory cause tval w.addr in
     let v : View = view_of p.event in
     subst (λ x. Ended m x p) (sym (e ∙ ap₂ (λ a b. fails m.core a b w.addr) ec et))
-    (record {
-      does = fails_does m.h.state m.c cause tval w.addr word ops memory m.core m.h.times.ctl m.d m.i v k.csrs k.pc
-          k.complemented k.dummies k.ctl ew (is_trap (settings_of m.s) m.h.times.ctl v m.i refl t.item);
-      good = trap_good m.s.image.ram m.h.state m.c word cause tval w.addr ops memory k.good er eb low;
-      memory = em;
-    })
+    (fails_does m.h.state m.c cause tval w.addr word ops memory m.core m.d m.i v k.csrs k.pc k.complemented k.dummies
+    ew (is_trap (settings_of m.s) m.h.times.ctl v m.i refl t.item))
 
 -- by the address that the trap has
 pub portion_ends : (m : Case) (word cause tval : ℕ) (ops : Option (ℕ × ℕ)) (memory : Memory) (w : Access) → Known m
     → Meets m (trapped m.h.state m.c word ops memory cause tval w.addr) → m.g.access ≡ Some w
-    → (if w.store then 7 else 5) ≡ cause → FailsAt w.addr tval → w.addr < 2 ^ 32
+    → (if w.store then 7 else 5) ≡ cause → FailsAt w.addr tval
     → (if cause == 1 then 0 else stage_word m.core.id) ≡ word
     → view_phase (Some (view_of (trapped m.h.state m.c word ops memory cause tval w.addr).event))
     ≡ (if tval == w.addr then 2 else 3)
-    → memory ≡ memory_at (image_memory m.s.image) m.ws m.c → memory.ram ≡ m.s.image.ram
-    → ((a : ℕ) → memory.byte a < 256)
     → Ended m (effect_now m) (trapped m.h.state m.c word ops memory cause tval w.addr)
 unfolding effect_by
-portion_ends m word cause tval ops memory w k t ea ec f low ew phase em er eb = by (tval == w.addr) refl
+portion_ends m word cause tval ops memory w k t ea ec f ew phase = by (tval == w.addr) refl
   where
     effect : (n : ℕ) → view_phase (Some (view_of (trapped m.h.state m.c word ops memory cause tval w.addr).event)) ≡ n
         → effect_now m ≡ effect_by (ending_by n m.i.redirects) m.core m.g m.inn.lines
@@ -191,11 +165,11 @@ portion_ends m word cause tval ops memory w k t ea ec f low ew phase em er eb = 
     by true e =
         portion_ended m word cause tval ops memory w false k t
         (effect 2 (phase ∙ ap (λ b. if b then 2 else 3) e) ∙ ap (λ o. portion_fails m.core (access_or o) false) ea) ec
-        (sym (eqb-true tval w.addr e)) ew em er eb (place_low w.addr tval low f)
+        (sym (eqb-true tval w.addr e)) ew
     by false e =
         portion_ended m word cause tval ops memory w true k t
         (effect 3 (phase ∙ ap (λ b. if b then 2 else 3) e) ∙ ap (λ o. portion_fails m.core (access_or o) true) ea) ec
-        (other (tval == w.addr) refl e f.place) ew em er eb (place_low w.addr tval low f)
+        (other (tval == w.addr) refl e f.place) ew
 
 -- ---- a load
 
@@ -208,7 +182,7 @@ abbrev pub load_access : Case → LoadOp → ℕ → ℕ → Access
 load_access m op rs1 imm = record { addr = load_addr m rs1 imm; size = size_of op; store = false; value = 0 }
 
 -- the phase of a portion isn't 4
-not_four : (b : Bool) (n : ℕ) → n ≡ (if b then 2 else 3) → (n == 4) ≡ false
+pub not_four : (b : Bool) (n : ℕ) → n ≡ (if b then 2 else 3) → (n == 4) ≡ false
 not_four true n e = ap (λ x. x == 4) e
 not_four false n e = ap (λ x. x == 4) e
 
@@ -229,7 +203,6 @@ Gathers m op addr =
 load_by : (m : Case) (word len rd rs1 imm : ℕ) (op : LoadOp) (o1 o2 : Option ℕ)
     → ((at : ℕ) → o1 ≡ Some at → FailsAt (load_addr m rs1 imm) at)
     → ((at : ℕ) → o2 ≡ Some at → FailsAt (load_addr m rs1 imm) at)
-    → m.h.state.memory ≡ memory_at (image_memory m.s.image) m.ws m.c
     → (view_phase (Some (view_of (finished (now m).pc (now m).regs m.c word
     (Rattle.ibx_arch.specs.Step.operands (now m) (Load op rd rs1 imm))
     (load_with (now m) op rd (load_addr m rs1 imm) (following (now m) len) o1 o2)).event)) ≡ 0
@@ -245,25 +218,23 @@ load_by : (m : Case) (word len rd rs1 imm : ℕ) (op : LoadOp) (o1 o2 : Option �
     (Rattle.ibx_arch.specs.Step.operands (now m) (Load op rd rs1 imm))
     (load_with (now m) op rd (load_addr m rs1 imm) (following (now m) len) o1 o2))
 unfolding finished view_of outcome_by plain_outcome retired_item
-load_by m word len rd rs1 imm op (Some at) o2 f1 f2 em gath k t hd =
+load_by m word len rd rs1 imm op (Some at) o2 f1 f2 gath k t hd =
     let v : View = view_of (trapped m.h.state m.c word
     (Rattle.ibx_arch.specs.Step.operands (now m) (Load op rd rs1 imm)) m.h.state.memory 5 at
     (load_addr m rs1 imm)).event in
     portion_ends m word 5 at (Rattle.ibx_arch.specs.Step.operands (now m) (Load op rd rs1 imm)) m.h.state.memory
     (load_access m op rs1 imm) k t
     (load_seen m word len rd rs1 imm op v hd (not_four (at == load_addr m rs1 imm) (view_phase (Some v)) refl)) refl
-    (f1 at refl) (mod_below (reg m.h.state rs1 + imm) (2 ^ 32) (omega arith)) hd.fetched refl
-    em k.good.ram_is k.good.bytes
-load_by m word len rd rs1 imm op None (Some at) f1 f2 em gath k t hd =
+    (f1 at refl) hd.fetched refl
+load_by m word len rd rs1 imm op None (Some at) f1 f2 gath k t hd =
     let v : View = view_of (trapped m.h.state m.c word
     (Rattle.ibx_arch.specs.Step.operands (now m) (Load op rd rs1 imm)) m.h.state.memory 5 at
     (load_addr m rs1 imm)).event in
     portion_ends m word 5 at (Rattle.ibx_arch.specs.Step.operands (now m) (Load op rd rs1 imm)) m.h.state.memory
     (load_access m op rs1 imm) k t
     (load_seen m word len rd rs1 imm op v hd (not_four (at == load_addr m rs1 imm) (view_phase (Some v)) refl)) refl
-    (f2 at refl) (mod_below (reg m.h.state rs1 + imm) (2 ^ 32) (omega arith)) hd.fetched refl
-    em k.good.ram_is k.good.bytes
-load_by m word len rd rs1 imm op None None f1 f2 em gath k t hd =
+    (f2 at refl) hd.fetched refl
+load_by m word len rd rs1 imm op None None f1 f2 gath k t hd =
     let insn : Insn = Load op rd rs1 imm in
     let addr : ℕ = load_addr m rs1 imm in
     let w : Access = load_access m op rs1 imm in
@@ -280,23 +251,15 @@ load_by m word len rd rs1 imm op None None f1 f2 em gath k t hd =
     ∙ ap (λ x. retires_as m.core m.g m.i.redirects rd x None (next_of m.core.id) (ticked m.core)) (gath refl)
     ∙ ap (λ x. retires_as m.core m.g m.i.redirects rd value None x (ticked m.core))
     (next_is m word len k hd.word_is hd.len_is))
-    (λ c. refl) refl
-    (record {
-      fences = ap (λ (j : Item). j.fences) item;
-      follows = λ q. length_is m.h.state.pc len word hd.len_is
-          ∙ ap (λ n. (m.h.state.pc + 2 * n) % 2 ^ 32) (sym (ap (λ (j : Item). j.parcels) item));
-    })
-    em k.good.ram_is k.good.bytes (load_low op m.h.state.memory addr k.good.bytes)
-    (next_even m.h.state.pc len word hd.len_is k.good.pc_even) (mod_below (m.h.state.pc + len) (2 ^ 32) (omega arith))
+    refl (ap (λ (j : Item). j.fences) item)
 
 -- so every load does
 pub load_ends : (m : Case) (word len lines rd rs1 imm : ℕ) (op : LoadOp)
-    → m.h.state.memory ≡ memory_at (image_memory m.s.image) m.ws m.c
     → (view_phase (Some (view_of (insn_step m word len lines (Load op rd rs1 imm)).event)) ≡ 0
     → Gathers m op (load_addr m rs1 imm)) → RowEnds m word len lines (Load op rd rs1 imm)
 unfolding execute load
-load_ends m word len lines rd rs1 imm op em gath k t hd =
+load_ends m word len lines rd rs1 imm op gath k t hd =
     load_by m word len rd rs1 imm op (refused_at (now m).csrs (load_addr m rs1 imm) (size_of op) Read)
     (error_at m.h.state.memory.ram (load_addr m rs1 imm) (size_of op))
     (λ at e. refused_place (now m) (load_addr m rs1 imm) (size_of op) at e)
-    (λ at e. error_place m.h.state.memory (load_addr m rs1 imm) (size_of op) at e) em gath k t hd
+    (λ at e. error_place m.h.state.memory (load_addr m rs1 imm) (size_of op) at e) gath k t hd

@@ -1,25 +1,22 @@
 -- A trap that is taken is the step's.
-use Rattle.std.proofs.Common.{◌≡◌, ℕ, ◌-◌, ◌^◌, ◌<◌, true, false, Option, Some, None, refl, sym, ap, ◌∙◌}
+use Rattle.std.proofs.Common.{◌≡◌, ℕ, true, false, Option, Some, None, refl, sym, ap, ◌∙◌}
 use Rattle.std.specs.Prelude.{◌==◌, if◌then◌else◌}
 use Rattle.ibx_isa.specs.declared.event.View.{View}
 use Rattle.ibx_isa.specs.declared.event.Event.TheVariants.{Trap as TrapEvent}
 use Rattle.ibx_csr.specs.Fields.{Complemented, tick_of, values}
 use Rattle.ibx_csr.specs.Values.{CsrValues, csr_tick, trap_regs, with_trap_regs}
 use Rattle.ibx_trap.specs.Traps.{enter_of, enter_target}
-use Rattle.ibx_elf.specs.declared.ram.Ram.{Ram}
 use Rattle.ibx_arch.specs.declared.done.Done.TheVariants.{Traps}
 use Rattle.ibx_arch.specs.Memory.{Memory}
 use Rattle.ibx_arch.specs.State.{State, at_cycle}
 use Rattle.ibx_arch.specs.Step.{Stepped, stepped_by}
-use Rattle.ibx_time.specs.Controls.{Ctl, ctl_after, ctl_entered, ctl_of}
 use Rattle.ibx_time.specs.Dummies.{dummies_after}
 use Rattle.ibx_dummy.specs.declared.unit.Dummy.{Dummy}
 use Rattle.ibx_time.specs.Items.{Item}
 use Rattle.ibx_time.specs.Times.{target_if}
 use Rattle.ibx_time_invariant.proofs.Rests.{tick_is}
-use Rattle.ibx_time_retire.proofs.Frame.{Does, IsGood}
-use Rattle.ibx_time_retire.proofs.Irq.{ctl_trap, regs_are, regs_complement, ticked_complement}
-use Rattle.ibx_time_retire.proofs.Values.{enter_even, enter_low, later_values, tick_values, trap_values}
+use Rattle.ibx_time_retire.proofs.Frame.{Does}
+use Rattle.ibx_time_retire.proofs.Irq.{regs_are, regs_complement, ticked_complement}
 use Rattle.ibx_core.specs.declared.state.State.{State as Core}
 use Rattle.ibx_core.specs.Effects.{fails, rests}
 use Rattle.ibx_core.specs.Sights.{stage_word}
@@ -40,11 +37,6 @@ pub record IsTrap (i : Item) (v : View) : Type 0 where
 -- a trap leaves the dummies, and enters
 dummies_stay : (d : Dummy) (v : View) → v.kind ≡ 1 → d ≡ dummies_after d v
 dummies_stay d v e = rw e refl
-
--- what time depends on is as the entry of an exception leaves it
-ctl_enters : (c : Ctl) (v : View) → v.kind ≡ 1 → ctl_after c v ≡ ctl_entered c false
-unfolding ctl_after
-ctl_enters c v e = rw e refl
 
 -- equal parts make equal events
 event_is : (pc pc2 word word2 cause tval addr c : ℕ) → pc ≡ pc2 → word ≡ word2
@@ -67,12 +59,12 @@ ticked_entry w pc cause tval = refl
 
 -- so the effect of a trap is its step's
 pub fails_does : (x : State) (c cause tval addr word : ℕ) (ops : Option (ℕ × ℕ)) (memory : Memory) (core : Core)
-    (ctl : Ctl) (d : Dummy) (i : Item) (v : View)
+    (d : Dummy) (i : Item) (v : View)
     → values core.csrs ≡ (at_cycle x c).csrs → core.id.pc ≡ x.pc → Complemented core.csrs → core.dummies ≡ d
-    → ctl ≡ ctl_of x.csrs → (if cause == 1 then 0 else stage_word core.id) ≡ word → IsTrap i v
-    → Does c x.pc x.regs ctl d i v (fails core cause tval addr) (trapped x c word ops memory cause tval addr)
+    → (if cause == 1 then 0 else stage_word core.id) ≡ word → IsTrap i v
+    → Does c x.regs d i v (fails core cause tval addr) (trapped x c word ops memory cause tval addr)
 unfolding fails rests
-fails_does x c cause tval addr word ops memory core ctl d i v ev ep ec ed ek ew it =
+fails_does x c cause tval addr word ops memory core d i v ev ep ec ed ew it =
     let now : CsrValues = (at_cycle x c).csrs in
     let target : enter_target (trap_regs (values core.csrs)) cause false
     ≡ enter_target (trap_regs (csr_tick now false None)) cause false =
@@ -94,27 +86,4 @@ fails_does x c cause tval addr word ops memory core ctl d i v ev ep ec ed ek ew 
           (λ b. target_if b (enter_target (trap_regs (csr_tick now false None)) cause false)) it.redirects);
       fence = sym it.fences;
       dummies = ed ∙ dummies_stay d v it.kind;
-      ctl_is = ctl_enters ctl v it.kind ∙ ap (λ y. ctl_entered y false) ek
-          ∙ ctl_trap x.csrs (c - x.stands) x.pc cause false tval ∙ ap ctl_of (ticked_entry now x.pc cause tval);
-      follows = λ e. absurd (apart (sym it.redirects ∙ e));
     }
-  where
-    apart : true ≡ false → ⊥
-    apart e = cc
-
--- and the state after it valid
-pub trap_good : (ram : Ram) (x : State) (c word cause tval addr : ℕ) (ops : Option (ℕ × ℕ)) (memory : Memory)
-    → IsGood ram x → memory.ram ≡ ram → ((a : ℕ) → memory.byte a < 256) → tval < 2 ^ 32
-    → IsGood ram (trapped x c word ops memory cause tval addr).next
-unfolding enter_of
-trap_good ram x c word cause tval addr ops memory g er eb l = record {
-  pc_even = enter_even (trap_regs (csr_tick (at_cycle x c).csrs false None)) cause false;
-  pc_low = enter_low (trap_regs (csr_tick (at_cycle x c).csrs false None)) cause false;
-  csrs = trap_values (csr_tick (at_cycle x c).csrs false None) _
-      (tick_values (at_cycle x c).csrs false None (later_values x.csrs (c - x.stands) g.csrs)) l;
-  regs_count = g.regs_count;
-  regs_low = g.regs_low;
-  zero_is = g.zero_is;
-  ram_is = er;
-  bytes = eb;
-}

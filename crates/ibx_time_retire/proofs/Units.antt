@@ -1,6 +1,6 @@
--- What the units answer is what the rows of loads, stores, products and quotients need.
-use Rattle.std.proofs.Common.{◌≡◌, ◌≢◌, ℕ, ◌+◌, ◌^◌, ◌<◌, Bool, true, false, ◌&&◌, ◌==◌, List, if◌then◌else◌, refl}
-use Rattle.std.proofs.Common.{sym, ap, ap₂, ◌∙◌, subst, arith, Option, Some, None, ◌%◌}
+-- What the units answer is what the rows of loads, products and quotients need.
+use Rattle.std.proofs.Common.{◌≡◌, ◌≢◌, ℕ, ◌+◌, ◌^◌, ◌<◌, Bool, true, false, ◌&&◌, ◌==◌, if◌then◌else◌, refl}
+use Rattle.std.proofs.Common.{sym, ap, ap₂, ◌∙◌, subst, arith, Option, Some, None}
 use Rattle.std.specs.Prelude.{IfSome}
 use Rattle.std.proofs.lemmas.Nat.{mod_below}
 use Rattle.ibx_isa.specs.Cost.{md_cost_of}
@@ -11,25 +11,23 @@ use Rattle.ibx_isa.specs.declared.insn.LoadOp.{LoadOp}
 use Rattle.ibx_isa.specs.declared.insn.MdOp.{MdOp}
 use Rattle.ibx_isa.specs.declared.event.Access.{Access}
 use Rattle.ibx_isa.specs.Views.{view_of}
-use Rattle.ibx_muldiv.specs.Unit.{result_of}
+use Rattle.ibx_muldiv.specs.Unit.{Finishes, result_of, start_of, ticks}
 use Rattle.ibx_isa.specs.Multiply.{md_value}
 use Rattle.ibx_bus.specs.Port.{answer_wires}
 use Rattle.ibx_arch.specs.declared.fetched.Fetched.{Fetched}
 use Rattle.ibx_arch.specs.declared.fetched.Fetched.TheVariants.{Unsound, Instruction}
-use Rattle.ibx_arch.specs.Memory.{image_memory}
 use Rattle.ibx_arch.specs.State.{at_cycle, reg}
 use Rattle.ibx_decoder.specs.Instructions.{instruction_of}
 use Rattle.ibx_arch.specs.Step.{Stepped, after_fetch, decoded}
 use Rattle.ibx_time.specs.Settings.{Setup, lines_in, settings_of}
-use Rattle.ibx_time.specs.Items.{NoPortion, One, OneBad, Portions, Two, TwoBad, portions_by}
-use Rattle.ibx_time.specs.Memories.{Write, access_of, memory_at, write_of, writes_with, written_by}
+use Rattle.ibx_time.specs.Items.{portions_by}
+use Rattle.ibx_time.specs.Memories.{access_of}
 use Rattle.ibx_time.specs.Times.{ADummy, AnInstruction, AnInterrupt}
-use Rattle.ibx_time.specs.History.{Story, access_at, access_by as access_from, choice_by, item_at, kind_of, taken}
+use Rattle.ibx_time.specs.History.{Story, access_at, access_by as access_from, choice_by, item_at, kind_of}
 use Rattle.ibx_time.specs.History.{view_with}
 use Rattle.ibx_time_machine.specs.System.{System}
 use Rattle.ibx_time_invariant.proofs.ArchSide.{ArchEnds, eyes_in, fetched_word}
 use Rattle.ibx_time_invariant.proofs.Dones.{ls_is, md_is}
-use Rattle.ibx_time_invariant.proofs.Quiets.{image_low, memory_low}
 use Rattle.ibx_time_invariant.proofs.Stages.{ItemAt, PhaseAt, is_fixed_at, reaches, trap_phase, view_phase}
 use Rattle.ibx_time_invariant.proofs.StageSide.{Ends, Eyes, IsGathered, Operands, Sees, Way, accesses, caused, dummy}
 use Rattle.ibx_time_invariant.proofs.StageSide.{interrupts, ls_seen, portion_code, refused, sleeps, works}
@@ -41,11 +39,14 @@ use Rattle.ibx_time_retire.proofs.Ends.{what}
 use Rattle.ibx_time_retire.proofs.Insn.{Case}
 use Rattle.ibx_time_retire.proofs.Join.{Lines, OthersEnd, OthersIn}
 use Rattle.ibx_time_retire.proofs.Loads.{gathers, load_access, load_addr, load_ends}
-use Rattle.ibx_time_retire.proofs.Low.{md_low, md_result}
-use Rattle.ibx_time_retire.proofs.Plain.{insn_step, low_reg}
+use Rattle.ibx_time.proofs.States.{reg_low}
+use Rattle.ibx_time_decode.proofs.SeesStage.{Fields, row_is}
+use Rattle.ibx_isa.specs.declared.insn.MulKind.{MulKind}
+use Rattle.ibx_muldiv.specs.declared.unit.MulDiv.{MulDiv as MulDivUnit}
+use Rattle.ibx_muldiv.proofs.Cycles.{left_of-start, start_finishes}
+use Rattle.ibx_time_retire.proofs.Plain.{insn_step}
 use Rattle.ibx_time_retire.proofs.Simple.{RowEnds, md_ends}
-use Rattle.ibx_time_retire.proofs.Stage.{row_is}
-use Rattle.ibx_time_retire.proofs.Stores.{refused_memory, store_access, store_addr, store_ends, stored_memory}
+use Rattle.ibx_time_retire.proofs.Stage.{IsFetch}
 use Rattle.ibx_time_decode.proofs.Sees.{arch_sees}
 use Rattle.ibx_core.specs.Sights.{access_by, is_real, row_of}
 
@@ -68,15 +69,10 @@ record IsAccessRow (insn : Insn) : Type 0 where
   no_wfi : Some insn ≡ Some Wfi → ⊥
   sees : (a b : ℕ) → access_by (Some insn) a b ≡ None → ⊥
 
--- loads and stores are such rows
+-- a load is such a row
 load_row : (op : LoadOp) (rd rs1 imm : ℕ) → IsAccessRow (Load op rd rs1 imm)
 unfolding access_by
 load_row op rd rs1 imm = record { no_wfi = λ e. cc; sees = λ a b e. cc }
-
--- a store is no WFI, and makes an access with any operands
-store_row : (size rs1 rs2 imm : ℕ) → IsAccessRow (Store size rs1 rs2 imm)
-unfolding access_by
-store_row size rs1 rs2 imm = record { no_wfi = λ e. cc; sees = λ a b e. cc }
 
 -- without a trap such an item reaches its portions
 way_reaches : (s : Setup) (t : ℕ) (h : Story) (c : ℕ) (v : Eyes) (insn : Insn) (a b : ℕ)
@@ -91,6 +87,16 @@ way_reaches s t h c v insn a b k r x u z (accesses w e g n q p row portions f re
     ap (λ q. reaches q false) portions ∙ portions_reach _ _ _
 way_reaches s t h c v insn a b k r x u z (sleeps e row g n q p sl wake f red) = absurd (u.no_wfi (sym r ∙ row))
 way_reaches s t h c v insn a b k r x u z (works cost e p q f turn) = absurd (u.sees a b (sym x ∙ p.inactive))
+
+-- ---- a product or a quotient
+
+-- the unit's result after the cost of a row is its value
+md_result : (op : MdOp) (a b cost : ℕ) (fixed : Bool) (mul : MulKind) (m : MulDivUnit) → a < 2 ^ 32 → b < 2 ^ 32
+    → m ≡ ticks cost (start_of op a b fixed mul) → cost ≡ md_cost_of op b fixed mul → result_of m ≡ md_value op a b
+unfolding Finishes
+md_result op a b cost fixed mul m l k e c =
+    ap result_of (e ∙ ap (λ n. ticks n (start_of op a b fixed mul)) (c ∙ sym (left_of-start op a b fixed mul l k)))
+    ∙ start_finishes op a b fixed mul l k
 
 -- ---- the case
 
@@ -111,9 +117,8 @@ module _ (s : Setup) (limit t : ℕ) (h : Story) (st : System) (ok : IsPlaced s)
   row_there : (word len : ℕ) (insn : Insn) → what s h ≡ Instruction word len → instruction_of word ≡ Some insn
       → row_of st.main.id ≡ Some insn
   row_there word len insn e d =
-      row_is h.state.pc word len st.main.id
-      (subst (λ f. Rattle.ibx_time_retire.proofs.Stage.IsFetch h.state.pc f) e (fetch_is_good s h ok i.pc_low))
-      (subst (λ f. Rattle.ibx_time_retire.proofs.Stage.Fields h.state.pc f st.main.id) e
+      row_is h.state.pc word len st.main.id (subst (λ f. IsFetch h.state.pc f) e (fetch_is_good s h ok i.good.pc_low)).1
+      (subst (λ f. Fields f h.state.pc st.main.id) e
       (fields_are s t h st.cycle st.main.id i k a)) ∙ d
 
   -- the item's access is that of the instruction, by the state's registers
@@ -159,25 +164,6 @@ module _ (s : Setup) (limit t : ℕ) (h : Story) (st : System) (ok : IsPlaced s)
 
   -- ---- a load
 
-  -- a load writes nothing
-  load_writes : (portions : Portions) (x y : Write) (ws : List Write) → written_by portions false x y ws ≡ ws
-  unfolding written_by
-  load_writes NoPortion x y ws = refl
-  load_writes One x y ws = refl
-  load_writes OneBad x y ws = refl
-  load_writes Two x y ws = refl
-  load_writes TwoBad x y ws = refl
-
-  -- so a load leaves the log as it was
-  load_taken : (op : LoadOp) (rs1 imm : ℕ) → access_at s t h ≡ Some (load_access m op rs1 imm)
-      → (taken s t h).writes ≡ h.writes
-  unfolding taken
-  load_taken op rs1 imm e =
-      ap (λ o. writes_with s.plan.dwaits h.times.made (t + 1) (item_at s t h).portions o h.writes) e
-      ∙ load_writes (item_at s t h).portions
-      (write_of s.plan.dwaits h.times.made (t + 1) (load_access m op rs1 imm) false)
-      (write_of s.plan.dwaits h.times.made (t + 1) (load_access m op rs1 imm) true) h.writes
-
   -- what the units answer for a load, for a product or quotient, and for a store
   load_other : (word len rd rs1 imm : ℕ) (op : LoadOp) → what s h ≡ Instruction word len
       → instruction_of word ≡ Some (Load op rd rs1 imm) → RowEnds m word len (Lines m) (Load op rd rs1 imm)
@@ -186,13 +172,12 @@ module _ (s : Setup) (limit t : ℕ) (h : Story) (st : System) (ok : IsPlaced s)
       let w : Access = load_access m op rs1 imm in
       let there : access_at s t h ≡ Some w = access_is word len insn e d in
       load_ends m word len (Lines m) rd rs1 imm op
-      (i.settled.memory ∙ ap (λ ws. memory_at (image_memory s.image) ws st.cycle) (sym (load_taken op rs1 imm there)))
       (λ z.
       let zero_ : trap_phase s t h ≡ 0 = phase_zero word len insn e d z in
       let g : IsGathered h w (ls_seen v st.main.id st.main.ls (answer_wires st.dport)) =
       n.gathered w (record { access = there; reached = reached word len insn e d (load_row op rd rs1 imm) zero_ }) refl
       zero_ in
-      gathers h.state.memory op (load_addr m rs1 imm) m.g.ls.first m.g.ls.second i.bytes
+      gathers h.state.memory op (load_addr m rs1 imm) m.g.ls.first m.g.ls.second i.good.bytes
       (mod_below (reg h.state rs1 + imm) (2 ^ 32) (omega arith))
       (ap (λ x. x.first) (ls_is s st) ∙ g.first) (ap (λ x. x.second) (ls_is s st) ∙ g.second))
 
@@ -204,30 +189,13 @@ module _ (s : Setup) (limit t : ℕ) (h : Story) (st : System) (ok : IsPlaced s)
   md_other word len rd rs1 rs2 op e d kn me hd =
       let row : row_of st.main.id ≡ Some (MulDiv op rd rs1 rs2) = row_there word len (MulDiv op rd rs1 rs2) e d in
       let o : Operands s t h v st.main.id op rs1 rs2 = sight.operands op rd rs1 rs2 row in
-      let low1 : reg h.state rs1 < 2 ^ 32 = low_reg s.image.ram h.state rs1 kn.good hd.well.1 in
-      let low2 : reg h.state rs2 < 2 ^ 32 = low_reg s.image.ram h.state rs2 kn.good hd.well.2 in
+      let low1 : reg h.state rs1 < 2 ^ 32 = reg_low s.image.ram h.state rs1 kn.good in
+      let low2 : reg h.state rs2 < 2 ^ 32 = reg_low s.image.ram h.state rs2 kn.good in
       let value : result_of m.g.md ≡ md_value op (reg h.state rs1) (reg h.state rs2) =
       md_result op (reg h.state rs1) (reg h.state rs2) (item_at s t h).cost (is_fixed_at s t h st.main.id) s.mul m.g.md
       low1 low2 (md_is s st ∙ n.result op rd rs1 rs2 row)
       (o.cost_is ∙ ap₂ (λ b f. md_cost_of op b f s.mul) o.second o.fixed_is) in
-      md_ends m word len (Lines m) rd rs1 rs2 op value (md_low op (reg h.state rs1) (reg h.state rs2) low1 low2) kn me
-      hd
-
-  -- ---- a store
-
-  -- a store ends as its step, since memory has its writes, or none where protection refuses it
-  store_other : (word len size rs1 rs2 imm : ℕ) → what s h ≡ Instruction word len
-      → instruction_of word ≡ Some (Store size rs1 rs2 imm) → RowEnds m word len (Lines m) (Store size rs1 rs2 imm)
-  store_other word len size rs1 rs2 imm e d =
-      let there : access_at s t h ≡ Some (store_access m size rs1 rs2 imm) =
-      access_is word len (Store size rs1 rs2 imm) e d in
-      store_ends m word len (Lines m) size rs1 rs2 imm (record {
-        refused = λ at r p. refused_memory s t h st.cycle (store_addr m rs1 imm) size (reg h.state rs2 % 256 ^ size)
-            ti.ctl i.ram there i.settled.memory n.settled at r p;
-        allowed = λ r p. stored_memory s t h st.cycle (store_addr m rs1 imm) size (reg h.state rs2 % 256 ^ size) ti.ctl
-            i.ram there i.settled.memory n.settled r p;
-        bytes = λ x. memory_low (image_memory s.image) (taken s t h).writes st.cycle x (image_low s ok);
-      })
+      md_ends m word len (Lines m) rd rs1 rs2 op value kn me hd
 
   -- ---- all rows
 
@@ -235,7 +203,7 @@ module _ (s : Setup) (limit t : ℕ) (h : Story) (st : System) (ok : IsPlaced s)
   row_other : (word len : ℕ) (insn : Insn) → what s h ≡ Instruction word len → instruction_of word ≡ Some insn
       → OthersEnd m word len insn
   row_other word len (Load op rd rs1 imm) e d = load_other word len rd rs1 imm op e d
-  row_other word len (Store size rs1 rs2 imm) e d = store_other word len size rs1 rs2 imm e d
+  row_other word len (Store size rs1 rs2 imm) e d = tt
   row_other word len (MulDiv op rd rs1 rs2) e d = md_other word len rd rs1 rs2 op e d
   row_other word len (Lui rd imm) e d = tt
   row_other word len (Auipc rd imm) e d = tt

@@ -17,7 +17,7 @@ use Rattle.ibx_elf.specs.Search.{first_of, only_if}
 use Rattle.ibx_elf.proofs.Laws.{entry-even, entry_in_ram, good_entry}
 use Rattle.ibx_plan.specs.declared.entry.Change.{Change}
 use Rattle.ibx_plan.specs.Plan.{PlanValue, lines_at}
-use Rattle.ibx_time_machine.specs.Whole.{IsPlaced}
+use Rattle.ibx_time.specs.Runs.{IsPlaced}
 use Rattle.ibx_time_system.specs.Projection.{AreWords, of_file}
 
 -- ---- the bytes of an image

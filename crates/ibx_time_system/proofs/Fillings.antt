@@ -4,7 +4,7 @@ use Rattle.std.specs.Prelude.{if◌then◌else◌, nat_lt, slice_set}
 use Rattle.std.proofs.lemmas.Nat.{mod_below}
 use Rattle.ibx_isa.specs.declared.bus.Alerts.{Alerts}
 use Rattle.ibx_isa.specs.declared.bus.Req.{Req}
-use Rattle.ibx_secded.specs.Code.{checks, column, columns, encode_of, numbers_of_weight, payload_of, weight}
+use Rattle.ibx_secded.specs.Code.{encode_of, payload_of}
 use Rattle.ibx_secded.proofs.Laws.{payload_of-encode}
 use Rattle.ibx_icache.specs.declared.doing.Doing.{Doing}
 use Rattle.ibx_icache.specs.declared.doing.Doing.TheVariants.{Rests, Looks, AsksFirst, AwaitsFirst, AsksSecond}
@@ -18,12 +18,8 @@ use Rattle.ibx_core.specs.Core.{Cycle}
 use Rattle.ibx_core.specs.declared.reads.Reads.{Reads}
 use Rattle.ibx_core.specs.Core.{out_with, tag_word}
 use Rattle.ibx_core.specs.Wires.{OutWires}
+use Rattle.ibx_time_fetch.proofs.AnswersCache.{empty_tag}
 use Rattle.ibx_time_system.specs.Cycles.{Fills, IsAddressed}
-
--- the codeword of an empty tag
-pub empty_tag : encode_of 22 6 0 ≡ 0xa800000
-unfolding encode_of checks column columns numbers_of_weight weight
-empty_tag = refl
 
 -- so its tag has 22 bits
 in_tag : (addr : ℕ) → addr < 2 ^ 32 → 2 ^ 21 + addr / 2 ^ 11 < 2 ^ 22

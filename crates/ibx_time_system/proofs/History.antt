@@ -6,15 +6,15 @@ use Rattle.ibx_isa.specs.declared.bus.Req.{Req}
 use Rattle.ibx_core.specs.declared.state.State.{State}
 use Rattle.ibx_core.specs.Core.{is_minor}
 use Rattle.ibx_time.specs.BusLines.{BusLine}
-use Rattle.ibx_time.specs.History.{Story, open_item, told_below, with_item}
 use Rattle.ibx_time.specs.Settings.{Setup}
 use Rattle.ibx_core.specs.Inputs.{Inputs}
 use Rattle.ibx_time_machine.specs.Core.{core_out as machine_out}
 use Rattle.ibx_time_machine.specs.System.{Shown, System, happens_at, run as machine_run, shown_by, shown_of, system_next}
-use Rattle.ibx_time_machine.specs.System.{with_event}
-use Rattle.ibx_time_machine.specs.Whole.{HoldsWords, shown_in, system_at, wires_in}
+use Rattle.ibx_time.specs.Runs.{with_event}
+use Rattle.ibx_time_machine.specs.Whole.{system_at, wires_in}
+use Rattle.ibx_time_machine.specs.Shown.{shown_in}
 use Rattle.ibx_time_invariant.proofs.Results.{Laws}
-use Rattle.ibx_time_machine.specs.Whole.{IsPlaced}
+use Rattle.ibx_time.specs.Runs.{IsPlaced}
 use Rattle.ibx_time_system.proofs.Theorem.{system_laws}
 use Rattle.ibx_system.specs.Core.{core_parts}
 use Rattle.ibx_system.specs.System.{Whole, look, next, output, output_of}
@@ -28,6 +28,7 @@ use Rattle.ibx_time_system.proofs.Outputs.{out_is}
 use Rattle.ibx_time_system.proofs.Runs.{Along, addressed, along, along_next, along_start, step_along}
 use Rattle.ibx_time_system.proofs.Steps.{puts}
 use Rattle.ibx_time_system.proofs.Systems.{machine_system}
+use Rattle.ibx_time.specs.Runs.{HoldsRam, HoldsRegisters}
 use Rattle.ibx_time_system.proofs.Reset.{start_is}
 
 -- ---- what a step shows
@@ -115,12 +116,10 @@ pub two_core_laws : (s : Setup) → IsPlaced s → (w : Whole State) → IsStart
 two_core_laws s ok w i =
     let l : Laws s = system_laws s ok in
     record {
-      events = λ n low. events_are s ok n 0 w (along_start s w i) ∙ ap (machine_run s n) (start_is s w i) ∙ l.events n low;
-      wires = λ c low. line_is s ok c (after w c) (along s ok w i c) ∙ l.wires c low;
-      quiet = λ c low. quiet_along s ok c (after w c) (along s ok w i c) (l.quiet c low);
-      fields = λ c low. ap (λ (y : System). shown_in y.main) (along s ok w i c).system ∙ l.fields c low;
-      words = λ c low.
-          let h : Story = (told_below s c).story in
-          subst (λ (y : System). HoldsWords s c y.regs y.mem.words h (with_item s h (open_item s c h))) (sym (along s ok w i c).system)
-          (l.words c low);
+      events = λ n. events_are s ok n 0 w (along_start s w i) ∙ ap (machine_run s n) (start_is s w i) ∙ l.events n;
+      wires = λ c. line_is s ok c (after w c) (along s ok w i c) ∙ l.wires c;
+      quiet = λ c. quiet_along s ok c (after w c) (along s ok w i c) (l.quiet c);
+      fields = λ c. ap (λ (y : System). shown_in y.main) (along s ok w i c).system ∙ l.fields c;
+      registers = λ c. subst (λ (y : System). HoldsRegisters s c y.regs) (sym (along s ok w i c).system) (l.words c).0;
+      memory = λ c. subst (λ (y : System). HoldsRam s c y.mem.words) (sym (along s ok w i c).system) (l.words c).1;
     }

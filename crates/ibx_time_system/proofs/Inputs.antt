@@ -13,11 +13,13 @@ use Rattle.ibx_core.specs.Inputs.{inputs_of, mul_of}
 use Rattle.ibx_core.specs.Sights.{ra_of, rb_of, row_of}
 use Rattle.ibx_core.specs.Wires.{InWires}
 use Rattle.ibx_time.specs.Settings.{Setup}
-use Rattle.ibx_time_machine.specs.System.{in_of, line_place, set_slot}
+use Rattle.ibx_time_machine.specs.System.{in_of}
+use Rattle.ibx_time_machine.specs.Words.{line_place, set_slot}
 use Rattle.ibx_system.specs.Core.{core_parts}
 use Rattle.ibx_system.specs.System.{Settings, Whole, changed, half_of, line_index, look, set_of, shown, tag_index}
 use Rattle.ibx_soc.specs.First.{mul_number}
 use Rattle.ibx_time_system.specs.Projection.{settings_in}
+use Rattle.ibx_time_machine.specs.Words.{look_at}
 use Rattle.ibx_time_system.proofs.Systems.{machine_system}
 
 -- the answer of a port
@@ -36,15 +38,6 @@ rsp_is : (p : PortState) → answer_wires p ≡ shown_rsp (answers p) p.err p.wo
 unfolding answer_wires
 rsp_is p = rsp_by (answers p) p.err p.word
 
--- the cache's words at an address
-abbrev machine_look : List ℕ → List ℕ → ℕ → Look
-machine_look tags lines addr = record {
-  tag0 = slice_index tags (set_slot addr);
-  tag1 = slice_index tags (set_slot addr + 1);
-  data0 = slice_index lines (line_place (set_slot addr) addr);
-  data1 = slice_index lines (line_place (set_slot addr + 1) addr);
-}
-
 -- the same by set, way and half
 abbrev core_look : List ℕ → List ℕ → ℕ → Look
 core_look tags lines addr = record {
@@ -55,7 +48,7 @@ core_look tags lines addr = record {
 }
 
 -- they are the same
-looked_at : (tags lines : List ℕ) (addr : ℕ) → machine_look tags lines addr ≡ core_look tags lines addr
+looked_at : (tags lines : List ℕ) (addr : ℕ) → look_at tags lines addr ≡ core_look tags lines addr
 looked_at tags lines addr =
     let low : set_slot addr ≡ tag_index (set_of addr) 0 = omega arith in
     let word : line_place (set_slot addr) addr ≡ line_index (set_of addr) 0 (half_of addr) = omega arith in

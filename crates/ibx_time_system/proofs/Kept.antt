@@ -12,7 +12,7 @@ use Rattle.ibx_icache.specs.declared.port.WordPort.{WordPort}
 use Rattle.ibx_time.specs.Memories.{Write}
 use Rattle.ibx_time.specs.Settings.{Setup}
 use Rattle.ibx_time.specs.Streams.{Stream}
-use Rattle.ibx_time_machine.specs.System.{put_reg}
+use Rattle.ibx_time_machine.specs.Words.{put_reg}
 use Rattle.ibx_time_invariant.proofs.Links.{Link, idle, pending}
 use Rattle.ibx_time_system.specs.Cycles.{IsAddressed, put_low}
 

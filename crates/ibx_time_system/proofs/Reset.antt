@@ -9,7 +9,7 @@ use Rattle.ibx_core.specs.Fields.{reset_of}
 use Rattle.ibx_core.specs.Wires.{quiet_in, quiet_out}
 use Rattle.ibx_time.specs.Settings.{Setup}
 use Rattle.ibx_time_machine.specs.System.{first_system, image_words}
-use Rattle.ibx_time_machine.specs.Whole.{IsPlaced}
+use Rattle.ibx_time.specs.Runs.{IsPlaced}
 use Rattle.ibx_lockstep.specs.Delays.{cycles_of}
 use Rattle.ibx_lockstep.specs.declared.delay.Delay.{Delay}
 use Rattle.ibx_lockstep.proofs.Pairs.{some_cycles}
@@ -17,9 +17,9 @@ use Rattle.ibx_system.specs.Core.{core_parts}
 use Rattle.ibx_system.proofs.First.{codewords_at_reset, first_at_reset}
 use Rattle.ibx_soc.specs.First.{first, words_from}
 use Rattle.ibx_time_system.specs.Projection.{IsStart, opened, settings_in, place_of}
-use Rattle.ibx_time_system.proofs.Fillings.{empty_tag}
 use Rattle.ibx_time_system.proofs.Systems.{machine_system, system_in}
 use Rattle.ibx_system.specs.System.{Whole}
+use Rattle.ibx_time_fetch.proofs.AnswersCache.{empty_tag}
 use Rattle.ibx_core.specs.declared.state.State.{State}
 
 -- the codeword of 0

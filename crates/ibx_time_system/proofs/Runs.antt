@@ -6,12 +6,13 @@ use Rattle.ibx_time.specs.History.{Story, told_below}
 use Rattle.ibx_time.specs.Settings.{Setup}
 use Rattle.ibx_core.specs.Inputs.{Inputs}
 use Rattle.ibx_time_machine.specs.Core.{core_out as machine_out}
-use Rattle.ibx_time_machine.specs.System.{System, first_system, put_reg, system_by, system_next}
+use Rattle.ibx_time_machine.specs.System.{System, first_system, system_by, system_next}
+use Rattle.ibx_time_machine.specs.Words.{put_reg}
 use Rattle.ibx_time_machine.specs.Whole.{steps, system_at}
 use Rattle.ibx_time_invariant.proofs.Phases.{Phases}
 use Rattle.ibx_time_invariant.proofs.Results.{phases}
 use Rattle.ibx_time_invariant.proofs.Runs.{Before, before}
-use Rattle.ibx_time_machine.specs.Whole.{IsPlaced}
+use Rattle.ibx_time.specs.Runs.{IsPlaced}
 use Rattle.ibx_time_system.proofs.Theorem.{remaining}
 use Rattle.ibx_system.specs.Core.{core_parts}
 use Rattle.ibx_system.specs.Runs.{Codewords, run}
@@ -76,7 +77,7 @@ low_value s ok c w a =
     ∙ ap (λ (x : System). (system_next s x).regs) a.system
     ∙ ap (λ (x : System). x.regs) (sym (steps_last s c (first_system s)))
     ∙ b.inv.tied.regs_are in
-    low_write (puts w).write w.place.registers h.state.regs regs b.inv.state.regs_low
+    low_write (puts w).write w.place.registers h.state.regs regs b.inv.state.good.regs_low
 
 -- ---- a step
 

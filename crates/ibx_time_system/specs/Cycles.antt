@@ -10,7 +10,7 @@ use Rattle.ibx_core.specs.Core.{core_next, core_out, is_minor, leaves}
 use Rattle.ibx_core.specs.Inputs.{inputs_of}
 use Rattle.ibx_core.specs.Wires.{InWires, OutWires}
 use Rattle.ibx_time_machine.specs.Core.{Out, core_out as machine_out}
-use Rattle.ibx_time_machine.specs.System.{put_lines, put_tags}
+use Rattle.ibx_time_machine.specs.Words.{put_lines, put_tags}
 use Rattle.ibx_system.specs.Core.{is_alert}
 use Rattle.ibx_system.specs.System.{fetch_of, lines_after, load_store_of, registers_after, tags_after}
 

@@ -7,7 +7,7 @@ ghost use Rattle.ibx_plan.specs.Plan.{PlanValue};
 ghost use Rattle.ibx_core.specs.declared.state.State.{State};
 ghost use Rattle.ibx_core.specs.Wires.{InWires};
 ghost use Rattle.ibx_time.specs.Settings.{Setup};
-ghost use Rattle.ibx_time_machine.specs.Whole.{IsPlaced};
+ghost use Rattle.ibx_time.specs.Runs.{IsPlaced};
 ghost use Rattle.ibx_lockstep.specs.declared.delay.Delay.{Delay};
 ghost use Rattle.ibx_system.specs.System.{Whole};
 ghost use Rattle.ibx_time_system.specs.Cycles.{SameCycle};

@@ -9,7 +9,6 @@ use Rattle.ibx_time_fetch.proofs.AnswersStores.{looks_ended, stores_ended}
 use Rattle.ibx_icache.specs.Doing.{answers_by, doing_of}
 use Rattle.ibx_icache.specs.WordPort.{after_answer as port_answered, answer_of, entry_by, filling_of, gone_by, is_hit}
 use Rattle.ibx_icache.specs.WordPort.{marked}
-use Rattle.ibx_icache.specs.declared.doing.Doing.TheVariants.{Rests}
 use Rattle.ibx_icache.specs.declared.lookup.Look.{Look}
 use Rattle.ibx_icache.specs.declared.port.WordPort.{WordPort}
 use Rattle.ibx_isa.specs.declared.bus.Rsp.{Rsp}
@@ -18,14 +17,16 @@ use Rattle.ibx_time_invariant.proofs.Links.{Asked, Link, idle, pending}
 use Rattle.ibx_time_invariant.proofs.Quiets.{word_low}
 use Rattle.ibx_time_invariant.proofs.Ties.{IsPlaced}
 use Rattle.ibx_time_invariant.proofs.Words.{WordsMid}
-use Rattle.ibx_time_machine.specs.System.{put_lines, put_tags}
+use Rattle.ibx_time_machine.specs.Words.{put_lines, put_tags}
 use Rattle.ibx_prefetch.specs.Buffer.{entry_of}
 use Rattle.ibx_prefetch.specs.declared.buffer.Prefetch.{Prefetch}
 use Rattle.ibx_prefetch.specs.declared.buffer.WordAns.{WordAns}
 use Rattle.ibx_time.specs.Memories.{Write}
-use Rattle.ibx_time.specs.Requests.{Past, Switch, enabled_at, is_cached, is_walked}
+use Rattle.ibx_time.specs.Requests.{Past}
 use Rattle.ibx_time.specs.Settings.{Settings, Setup, settings_of}
 use Rattle.ibx_time.specs.Streams.{Stream, last_of, past}
+use Rattle.ibx_time_invariant.proofs.Receives.{rest_silent}
+use Rattle.ibx_time_fetch.proofs.Answers.{walked_of}
 use Rattle.ibx_time_units.specs.Words.{answer_by, answer_if, is_answered, is_unmapped, word_at}
 
 -- ---- an answer by its parts
@@ -101,24 +102,7 @@ due_by s log x q c b e =
     sym (ap (λ v. answer_if v (is_unmapped s (last_of x q))
     (word_at s log (past (settings_of s) x q).grant (last_of x q))) e)
 
--- ---- the port at rest
-
--- a port at rest gives no answer, whatever the bus and the cache show it
-rest_silent : (w : WordPort) (rsp : Rsp) (l : Look) → doing_of w.c_state ≡ Rests → (answer_of w rsp l).valid ≡ false
-unfolding answer_of answers_by
-rest_silent w rsp l e = rw e refl
-
 -- ---- by the outstanding request
-
--- where two tests hold the second does
-and_second : (a b : Bool) → (a && b) ≡ true → b ≡ true
-and_second true b h = h
-and_second false b h = let no_ : false ≡ true = h in cc
-
--- a cached request has its walk behind it
-walked_of : (ss : List Switch) (fs : List ℕ) (t : ℕ) → is_cached ss fs t ≡ true → is_walked fs t ≡ true
-unfolding is_cached
-walked_of ss fs t h = and_second (enabled_at ss t) (is_walked fs t) h
 
 -- the answer by whether the request answers or goes on
 by_answered : (s : Setup) (log : List Write) (x : Stream) (q c t : ℕ) (y : Past) (v w : WordPort) (p : PortState)

@@ -4,7 +4,8 @@ use Rattle.std.proofs.Common.{length}
 use Rattle.std.proofs.Common.{Option, refl, sym, ap, ◌∙◌, arith, subst}
 use Rattle.ibx_bus.specs.Port.{PortState}
 use Rattle.ibx_bus.specs.Memory.{MemoryState}
-use Rattle.ibx_time_fetch.proofs.TakesLogs.{grows_same, words_logs}
+use Rattle.ibx_time_fetch.proofs.TakesLogs.{words_logs}
+use Rattle.ibx_time.proofs.Logs.{grows_same}
 use Rattle.ibx_icache.specs.WordPort.{wires_of, word_port_next}
 use Rattle.ibx_icache.specs.declared.port.WordPort.{WordPort}
 use Rattle.ibx_time_invariant.proofs.FetchSide.{ans_of, receives, wires_in}

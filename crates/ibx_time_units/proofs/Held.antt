@@ -22,10 +22,10 @@ use Rattle.ibx_time.specs.Settings.{Setup, settings_of}
 use Rattle.ibx_time.specs.Streams.{past}
 use Rattle.ibx_time_units.specs.Buffer.{IsBuffer}
 use Rattle.ibx_time_units.specs.Held.{HoldsFetches, HoldsStory, count_at}
-use Rattle.ibx_time_units.specs.Histories.{story_at}
+use Rattle.ibx_time.specs.Runs.{story_at}
 use Rattle.ibx_time_units.specs.Port.{IsCache, stored}
 use Rattle.ibx_time_units.proofs.Fields.{buffer_is}
-use Rattle.ibx_time_units.proofs.Histories.{open_is}
+use Rattle.ibx_time_invariant.proofs.Runs.{open_is}
 use Rattle.ibx_time_units.proofs.Stored.{cache_is}
 
 -- ---- the fields
@@ -66,4 +66,4 @@ holds_at s ok c =
 
 -- so it is in the core
 pub holds_fetches : (s : Setup) → IsPlaced s → (w : Whole State) → IsStart s w → HoldsFetches s w
-holds_fetches s ok w start c low = subst (HoldsAt s c) (sym (along s ok w start c).system) (holds_at s ok c)
+holds_fetches s ok w start c = subst (HoldsAt s c) (sym (along s ok w start c).system) (holds_at s ok c)

@@ -1,18 +1,19 @@
 -- The buffer requests the word that is due, or none.
-use Rattle.std.proofs.Common.{◌≡◌, ℕ, suc, ◌+◌, ◌<◌, ◌≤◌, Bool, true, false, not, ◌&&◌, ◌||◌, ◌==◌, List, length}
-use Rattle.std.proofs.Common.{nat_lt, if◌then◌else◌, Some, None, Option, refl, sym, ap, ap₂, ◌∙◌, inl, inr, arith}
+use Rattle.std.proofs.Common.{◌≡◌, ℕ, suc, ◌+◌, ◌<◌, ◌≤◌, Bool, true, false, not, ◌&&◌, ◌==◌, List, length}
+use Rattle.std.proofs.Common.{if◌then◌else◌, Some, None, Option, refl, sym, ap, ap₂, ◌∙◌, inl, inr, arith}
 use Rattle.std.proofs.Common.{subst}
 use Rattle.std.proofs.lemmas.Bool.{cases_lt, eq-eqb, le-ltb, lt-ltb, ne_eqb}
 use Rattle.ibx_bus.specs.Port.{PortState}
 use Rattle.ibx_icache.specs.declared.port.WordPort.{WordPort}
 use Rattle.ibx_time_invariant.proofs.Fetches.{Count, FetchAt, coming, dropped, rest}
 use Rattle.ibx_time_invariant.proofs.Words.{AfterAnswer, AfterIssue}
-use Rattle.ibx_prefetch.specs.Buffer.{next_addr, request_of, requested}
+use Rattle.ibx_prefetch.specs.Buffer.{request_of, requested}
 use Rattle.ibx_prefetch.specs.declared.buffer.Prefetch.{Prefetch}
 use Rattle.ibx_time.proofs.Times.{IsRequested}
 use Rattle.ibx_time.specs.Memories.{Write}
 use Rattle.ibx_time.specs.Settings.{Settings, Setup, settings_of}
 use Rattle.ibx_time.specs.Streams.{Stream, issue, last_of, word_addr}
+use Rattle.ibx_time_invariant.proofs.Issues.{count_free, request_busy}
 use Rattle.ibx_time_units.specs.Words.{is_issued, request_by}
 
 -- ---- how many words are requested, by what the buffer has
@@ -27,18 +28,7 @@ counted q m count busy drop (coming b d n) =
 counted q m count busy drop (dropped b d z nothing none) =
     ap₂ (λ u v. count + m + (if u && not v then 1 else 0)) b d ∙ omega (arith, z, nothing, none)
 
--- a mark is of a request that is outstanding
-pub marks_busy : (q m count : ℕ) (busy drop : Bool) → Count q m busy drop count → busy ≡ false → drop ≡ false
-marks_busy q m count busy drop (rest b d n) e = d
-marks_busy q m count busy drop (coming b d n) e = let no_ : true ≡ false = sym b ∙ e in cc
-marks_busy q m count busy drop (dropped b d z nothing none) e = let no_ : true ≡ false = sym b ∙ e in cc
-
 -- ---- the request
-
--- nothing is requested while a word is outstanding
-pub request_busy : (f : Prefetch) → f.f_busy ≡ true → request_of f ≡ None
-unfolding request_of
-request_busy f e = ap (λ b. if not b && (f.f_fresh || nat_lt f.buf_count 3) then Some (next_addr f) else None) e
 
 -- a request is made where none is
 asks_idle : (f : Prefetch) (addr : ℕ) (b : Bool) → f.f_busy ≡ b → request_of f ≡ Some addr → f.f_busy ≡ false
@@ -83,7 +73,7 @@ request_case s log x half q i c f (Some addr) u r v t e =
     let k : Settings = settings_of s in
     let m : ℕ = length x.enters in
     let still : f.f_busy ≡ false = asks_idle f addr f.f_busy refl e in
-    let unmarked : f.f_drop ≡ false = marks_busy q m f.buf_count f.f_busy f.f_drop u.count still in
+    let unmarked : f.f_drop ≡ false = (count_free q m f.buf_count f.f_busy f.f_drop still u.count).1 in
     let before_ : f.buf_count + m + 0 ≡ q =
     ap (λ b. f.buf_count + m + (if b && not f.f_drop then 1 else 0)) (sym still)
     ∙ counted q m f.buf_count f.f_busy f.f_drop u.count in

@@ -19,7 +19,7 @@ use Rattle.ibx_time_invariant.proofs.Pieces.{head_same}
 use Rattle.ibx_time_invariant.proofs.Ties.{IsPlaced}
 use Rattle.ibx_time_invariant.proofs.Turns.{fetch_rests, fetch_turns}
 use Rattle.ibx_time_invariant.proofs.Words.{AfterAnswer, AfterIssue, WordsAt, WordsMid}
-use Rattle.ibx_time_machine.specs.System.{put_lines, put_tags}
+use Rattle.ibx_time_machine.specs.Words.{put_lines, put_tags}
 use Rattle.ibx_memory.specs.Coded.{HoldsMemory}
 use Rattle.ibx_arch.specs.Memory.{image_memory}
 use Rattle.ibx_prefetch.specs.Buffer.{entry_of, head_of, received, request_of, requested, took, turned}
@@ -34,7 +34,8 @@ use Rattle.ibx_time.specs.Times.{Times, half_after, has_answered}
 use Rattle.ibx_time_units.specs.Courses.{IsTarget, Left, is_fence, left_by, taken_by, turned_by}
 use Rattle.ibx_time_units.specs.Words.{answer_by, request_by}
 use Rattle.ibx_time_units.proofs.Answers.{answer_is}
-use Rattle.ibx_time_units.proofs.Requests.{counted, request_busy, request_is}
+use Rattle.ibx_time_invariant.proofs.Issues.{request_busy}
+use Rattle.ibx_time_units.proofs.Requests.{counted, request_is}
 
 -- ---- the event and the redirect
 

@@ -1,5 +1,5 @@
 -- What the core in its system holds of the words of instructions, before each cycle of a run. Our own rule.
-use Rattle.std.specs.Prelude.{ℕ, ◌<◌, ◌^◌, List}
+use Rattle.std.specs.Prelude.{ℕ, List}
 use Rattle.ibx_core.specs.declared.state.State.{State}
 use Rattle.ibx_system.specs.System.{Whole}
 use Rattle.ibx_icache.specs.declared.port.WordPort.{WordPort}
@@ -9,7 +9,7 @@ use Rattle.ibx_time.specs.History.{Story}
 use Rattle.ibx_time.specs.Settings.{Setup, settings_of}
 use Rattle.ibx_time.specs.Streams.{past, requested}
 use Rattle.ibx_time_units.specs.Buffer.{IsBuffer}
-use Rattle.ibx_time_units.specs.Histories.{story_at}
+use Rattle.ibx_time.specs.Runs.{story_at}
 use Rattle.ibx_time_units.specs.Port.{IsCache, stored}
 
 -- the words of a story that are requested before a cycle
@@ -25,5 +25,5 @@ pub record HoldsStory (s : Setup) (y : Story) (c : ℕ) (f : Prefetch) (w : Word
 -- before each cycle of a run main holds those of the history
 abbrev pub HoldsFetches : Setup → Whole State → Type 0
 HoldsFetches s w =
-    (c : ℕ) → c < 2 ^ 62 → HoldsStory s (story_at s c) c (after w c).main.fetch (after w c).main.words
+    (c : ℕ) → HoldsStory s (story_at s c) c (after w c).main.fetch (after w c).main.words
     (after w c).place.tags (after w c).place.lines

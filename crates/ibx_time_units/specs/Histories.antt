@@ -1,13 +1,9 @@
 -- The history as a course: what it brings to the words in each cycle. Our own rule.
 use Rattle.std.specs.Prelude.{◌≡◌, ℕ}
-use Rattle.ibx_time.specs.History.{Story, open_item, told_below, with_item}
 use Rattle.ibx_time.specs.Settings.{Setup}
 use Rattle.ibx_time.specs.Times.{Times}
+use Rattle.ibx_time.specs.Runs.{story_at}
 use Rattle.ibx_time_units.specs.Courses.{Course, IsCourse, times_at}
-
--- the history below a cycle, with the item in the stage
-abbrev pub story_at : Setup → ℕ → Story
-story_at s c = let h = (told_below s c).story in with_item s h (open_item s c h)
 
 -- the words since the last redirect, the half in which the next instruction begins, and the registers are the same
 pub record SameWords (y z : Times) : Type 0 where

@@ -1,7 +1,7 @@
 ghost use Rattle.std.specs.Prelude.{ℕ};
 ghost use Rattle.ibx_core.specs.declared.state.State.{State};
 ghost use Rattle.ibx_system.specs.System.{Whole};
-ghost use Rattle.ibx_time_machine.specs.Whole.{IsPlaced};
+ghost use Rattle.ibx_time.specs.Runs.{IsPlaced};
 ghost use Rattle.ibx_time_system.specs.Projection.{IsStart};
 ghost use Rattle.ibx_time.specs.Settings.{Setup};
 ghost use Rattle.ibx_time_units.specs.Buffer.{BufferKeepsTimes};
