@@ -200,7 +200,7 @@ pub record HasTold (cycles : ℕ) (start : Whole State) (events left : ℕ) (w :
   pub room : events + left ≤ cycles
 
 -- nothing is told
-tells_nothing : (cycles : ℕ) (start : Whole State) → start.place.cycle ≡ 0 → HasTold cycles start 0 cycles start
+pub tells_nothing : (cycles : ℕ) (start : Whole State) → start.place.cycle ≡ 0 → HasTold cycles start 0 cycles start
 unfolding run
 tells_nothing cycles start new = record {
   rest = λ k. ap (slice_get (drive_from cycles start).events) (let count : 0 + k ≡ k = omega arith in count);
@@ -211,7 +211,7 @@ tells_nothing cycles start new = record {
 }
 
 -- an event more is told
-tells_more : (cycles : ℕ) (start : Whole State) (events left : ℕ) (w : Whole State) (e : Event) (t : Told) → TellsOn
+pub tells_more : (cycles : ℕ) (start : Whole State) (events left : ℕ) (w : Whole State) (e : Event) (t : Told) → TellsOn
     left w t → t.event ≡ Some e
     → HasTold cycles start events left w → HasTold cycles start (events + 1) t.left t.next
 tells_more cycles start events left w e t on is has = record {
@@ -228,7 +228,7 @@ tells_more cycles start events left w e t on is has = record {
 }
 
 -- the next event of the story
-next_of : (cycles : ℕ) (start : Whole State) (events left : ℕ) (w : Whole State) (o : Option Event) (t : Told) →
+pub next_of : (cycles : ℕ) (start : Whole State) (events left : ℕ) (w : Whole State) (o : Option Event) (t : Told) →
     TellsOn left w t → t.event ≡ o
     → HasTold cycles start events left w → slice_get (drive_from cycles start).events events ≡ o
 unfolding drive_from
@@ -292,7 +292,7 @@ begin cycles a b new other = record {
 }
 
 -- the views of a run by its next event
-views_by : (left : ℕ) (w : Whole State) (o : Option Event) → (told left w).event ≡ o
+pub views_by : (left : ℕ) (w : Whole State) (o : Option Event) → (told left w).event ≡ o
     → views_of left w ≡ cons_option (option_map view_of o) (views_of (told left w).left (told left w).next)
 views_by left w o is =
     ap (map view_of) ((tells left w).events ∙ ap (λ (o : Option Event). cons_option o (drive_from (told left w).left
@@ -304,7 +304,7 @@ views_by left w o is =
     mapped (Some e) = refl
 
 -- where a run has no next event, nothing of its story is left
-views_spent : (left : ℕ) (w : Whole State) → (told left w).event ≡ None → views_of (told left w).left
+pub views_spent : (left : ℕ) (w : Whole State) → (told left w).event ≡ None → views_of (told left w).left
     (told left w).next ≡ []
 unfolding drive_from
 views_spent left w none = ap (λ (n : ℕ). views_of n (told left w).next) ((tells left w).spent none)

@@ -5,3 +5,5 @@ pub mod Searching
 pub mod Sizes
 pub mod Telling
 pub mod Turns
+pub mod TimeComparing
+pub mod InTime

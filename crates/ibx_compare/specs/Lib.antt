@@ -1,3 +1,4 @@
 pub mod Drives
+pub mod TimeTwins
 pub mod Twins
 pub mod Verdicts

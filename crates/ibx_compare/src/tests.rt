@@ -1,9 +1,10 @@
-use crate::{Twin, Verdict, inject, twin};
+use crate::{Twin, TwinBy, Verdict, Views, inject, twin, twin_by};
 use ibx_elf::{Ram, load};
 use ibx_isa::{Alerts, MulKind, View};
 use ibx_lockstep::Delay;
 use ibx_plan::{Flip, Plan, Site};
 use ibx_soc::{Config, Soc};
+use ibx_views::Part;
 use std::alloc::Global;
 use std::process::Abort;
 use std::test::Fail;
@@ -259,6 +260,95 @@ fn twins_of_six_pairs(rt: HostRuntime) -> Result<(), Fail> {
         if let Some(left) = left {
             assert_eq!(rt; (left_a, left_b), left, "{name}: where both are left");
         }
+    }
+    Ok(())
+}
+
+/// How two programs compare in 1000 cycles by their views or by their time views.
+fn told_by(
+    rt: &impl Abort,
+    alloc: Global,
+    a: &Words,
+    b: &Words,
+    views: Views,
+) -> Result<TwinBy, Fail> {
+    let (a, b) = (file(alloc, a)?, file(alloc, b)?);
+    let (Ok(a), Ok(b)) = (load(&a, RAM), load(&b, RAM)) else {
+        panic!(rt; "well-formed files");
+    };
+    let plan = Plan::empty(alloc);
+    let config = Config {
+        ram: RAM,
+        mul: MulKind::Fast,
+        delay: Delay::Two,
+    };
+    let mut a = Soc::new(alloc, &a, &config, &plan).expect(rt, "memory");
+    let mut b = Soc::new(alloc, &b, &config, &plan).expect(rt, "memory");
+    Ok(twin_by(&mut a, &mut b, 1000, views))
+}
+
+/// The view of a division of 0x00100000 by a number.
+fn divided(by: u32) -> Option<View> {
+    plain(0x0010_008c, 0x0285_44b3, Some((0x0010_0000, by)))
+}
+
+// Divisions by 7 and by 9 take as long as each other, and a division by 0 doesn't; an ended story is a difference too.
+#[test]
+fn twins_by_views_and_by_time(rt: HostRuntime) -> Result<(), Fail> {
+    let time = Views::Time {
+        ram: RAM,
+        mul: MulKind::Fast,
+    };
+    // What the row shows, both programs, what is compared, the answer, and the part.
+    let rows: [(&str, Words, Words, Views, Twin, Option<Part>); 4] = [
+        (
+            "operands that don't show in time",
+            dividing(IDLE_WORD, 7),
+            dividing(IDLE_WORD, 9),
+            time,
+            Twin::Same(7),
+            None,
+        ),
+        (
+            "the same by their views",
+            dividing(IDLE_WORD, 7),
+            dividing(IDLE_WORD, 9),
+            Views::Full,
+            Twin::Differ {
+                at: 3,
+                a: divided(7),
+                b: divided(9),
+            },
+            None,
+        ),
+        (
+            "a division by 0",
+            dividing(IDLE_WORD, 7),
+            dividing(IDLE_WORD, 0),
+            time,
+            Twin::Differ {
+                at: 3,
+                a: divided(7),
+                b: divided(0),
+            },
+            Some(Part::Cost),
+        ),
+        (
+            "one story halts",
+            storing(1),
+            storing(0),
+            time,
+            Twin::Differ {
+                at: 5,
+                a: None,
+                b: plain(0x0010_0094, IDLE_WORD, None),
+            },
+            None,
+        ),
+    ];
+    for (name, a, b, views, twin, part) in rows {
+        let found = told_by(&rt, rt.alloc(), &a, &b, views)?;
+        assert_eq!(rt; found, TwinBy { twin, part }, "{name}");
     }
     Ok(())
 }

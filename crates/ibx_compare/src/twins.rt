@@ -8,12 +8,11 @@ ghost use Rattle.ibx_compare.specs.Twins.{HasLine, HaveLines, IsFirstDifference,
 ghost use Rattle.ibx_compare.specs.Twins.{views_of};
 
 use crate::comparison::Twin;
+use crate::next::next_event;
 use ibx_isa::{View, view};
 use ibx_soc::Soc;
-use ibx_story::halts;
 
-// Makes cycles up to the next event, and gives its view. Takes them from those that are left of the budget, none of
-// which are left after a halting event.
+// The view of the next event.
 fn next_view(soc: &mut Soc<'_>, left: &mut u64) -> Option<View>
     requires { soc.old.place.cycle + left.old ≤ 1000000000 }
     ensures shown { result ≡ option_map view_of (told left.old soc.old).event }
@@ -21,17 +20,8 @@ fn next_view(soc: &mut Soc<'_>, left: &mut u64) -> Option<View>
     ensures left { left.new ≡ (told left.old soc.old).left }
     ensures next { soc.new ≡ (told left.old soc.old).next }
 {
-    while *left > 0 {
-        let cycle = soc.step();
-        *left -= 1;
-        if let Some(event) = cycle.event {
-            if halts(&event) {
-                *left = 0;
-            }
-            return Some(view(&event));
-        }
-    }
-    None
+    let event = next_event(soc, left)?;
+    Some(view(&event))
 }
 
 /// Tells the stories of two systems, each at most `cycles` cycles long, 1 to 1,000,000,000, one event of each at a

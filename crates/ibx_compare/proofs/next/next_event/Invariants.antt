@@ -1,6 +1,6 @@
 use Rattle.std.proofs.Common.{◌≡◌, ◌≤◌, ◌+◌}
 use Rattle.ibx_compare.specs.Twins.{told}
-use Rattle.ibx_compare.proofs.twins.next_view.Given as goal
+use Rattle.ibx_compare.proofs.next.next_event.Given as goal
 
 abbrev pub invariant-loop-left : goal.invariant-loop-left
 invariant-loop-left l = record {

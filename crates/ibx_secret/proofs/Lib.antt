@@ -1,0 +1,13 @@
+pub mod Places
+pub mod Csrs
+pub mod Rows
+pub mod CsrRows
+pub mod Alike
+pub mod Words
+pub mod Logs
+pub mod Writes
+pub mod Stories
+pub mod Even
+pub mod Halts
+pub mod Reasons
+pub mod Packed

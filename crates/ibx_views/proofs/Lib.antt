@@ -1,0 +1,10 @@
+pub mod Limits
+pub mod Alike
+pub mod Agree
+pub mod Shown
+pub mod Seen
+pub mod Histories
+pub mod OneLimit
+pub mod Telling
+pub mod Operands
+pub mod Comparing
