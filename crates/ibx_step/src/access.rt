@@ -76,9 +76,9 @@ impl Machine {
         )
     }
 
-    // The byte address of the portion that protection refuses.
+    /// The byte address of the portion that protection refuses.
     #[tactic(auto, unfolding(ibx_arch::specs::Access::refused_at))]
-    fn refused(&self, addr: u32, size: u8, kind: AccessKind) -> Option<u32>
+    pub(crate) fn refused(&self, addr: u32, size: u8, kind: AccessKind) -> Option<u32>
         requires { size ≤ 4 }
         ensures { result ≡ refused_at (values self.now.csrs) addr size kind }
     {

@@ -1,6 +1,6 @@
 ghost use Rattle.std.specs.Prelude.{◌≡◌, ◌≤◌, ◌<◌, ◌^◌, ◌%◌, IfSome};
 ghost use Rattle.ibx_csr.specs.Fields.{values};
-ghost use Rattle.ibx_csr.specs.Values.{cfg_bytes};
+ghost use Rattle.ibx_csr.specs.Values.{cfg_bytes, sec_of};
 ghost use Rattle.ibx_arch.specs.Fetch.{fetch, is_sound};
 ghost use Rattle.ibx_memory.specs.Words.{memory_of};
 ghost use Rattle.ibx_step.specs.Machines.{state_of, IsFetched};
@@ -28,11 +28,13 @@ impl Machine {
     pub(crate) fn protection(&self) -> PmpRegs
         ensures cfg { result.cfg ≡ cfg_bytes (values self.now.csrs) }
         ensures addr { result.addr ≡ (values self.now.csrs).pmpaddr }
+        ensures sec { result.sec ≡ sec_of (values self.now.csrs) }
     {
         let view = self.csrs.pmp();
         let cfg = view.cfg;
         let addr = view.addr;
-        PmpRegs { cfg, addr }
+        let sec = view.sec;
+        PmpRegs { cfg, addr, sec }
     }
 
     // Whether the parcel at an address may be executed.

@@ -7,6 +7,7 @@ mod csr;
 mod execute;
 mod fetch;
 mod machine;
+mod outcome;
 mod storage;
 #[cfg(test)]
 mod tests;

@@ -1,4 +1,5 @@
-ghost use Rattle.std.specs.Prelude.{◌≡◌, ◌≤◌, ◌<◌, ◌^◌, IfOk, IfSome};
+ghost use Rattle.std.specs.Prelude.{◌≡◌, ◌+◌, ◌≤◌, ◌<◌, ◌^◌, IfOk, IfSome};
+ghost use Rattle.ibx_csr.specs.Fields.{values};
 ghost use Rattle.ibx_arch.specs.State.{reg, with_reg, at_cycle};
 ghost use Rattle.ibx_arch.specs.Step.{finished, interrupted, operands, reset_state, present_step, step_with};
 ghost use Rattle.ibx_arch.specs.Laws.{IsAligned};
@@ -74,7 +75,7 @@ impl Machine {
     /// The step with a choice, at a cycle that is not before the one at which the counters stand, with the interrupt
     /// lines of that cycle. It is the step whether or not the state takes the choice.
     pub fn take(&mut self, choice: Choice, cycle: u64, lines: u32) -> Event
-        requires cycle { cycle < 2 ^ 62 }
+        requires cycle { cycle + 1 < 2 ^ 64 }
         requires aligned { IsAligned (state_of self.old) }
         ensures stepped { stepped_to result self.new ≡ step_with (λ _. lines) (state_of self.old) (choice_of choice)
             cycle }
@@ -90,6 +91,20 @@ impl Machine {
         }
     }
 
+    /// The program counter, a byte address.
+    pub fn pc(&self) -> u32
+        ensures { result ≡ (state_of self.now).pc }
+    {
+        self.pc
+    }
+
+    /// The CSRs with the mode. Their counters stand at the cycle after the last step.
+    pub fn csrs(&self) -> &Csrs
+        ensures { values result.now ≡ (state_of self.now).csrs }
+    {
+        &self.csrs
+    }
+
     // Moves the counters to a cycle.
     fn move_to(&mut self, cycle: u64)
         ensures { state_of self.new ≡ at_cycle (state_of self.old) cycle }
@@ -102,7 +117,7 @@ impl Machine {
     // Takes an interrupt.
     #[tactic(auto, unfolding(ibx_arch::specs::Step::interrupted))]
     fn interrupt(&mut self, number: u8, cycle: u64) -> Event
-        requires { cycle < 2 ^ 62 }
+        requires { cycle + 1 < 2 ^ 64 }
         ensures stepped { stepped_to result self.new ≡ interrupted (at_cycle (state_of self.old) cycle) number cycle }
         ensures printable { IsPrintable result }
     {
@@ -123,7 +138,7 @@ impl Machine {
     // Carries out what was fetched and decoded.
     #[tactic(auto, unfolding(crate::specs::Preparing::carried_out))]
     fn carry_out(&mut self, prepared: Prepared, cycle: u64, lines: u32) -> Event
-        requires cycle { cycle < 2 ^ 62 }
+        requires cycle { cycle + 1 < 2 ^ 64 }
         requires sound { IsSound prepared }
         ensures stepped { stepped_to result self.new ≡ carried_out (at_cycle (state_of self.old) cycle) cycle lines
             prepared }
@@ -163,7 +178,7 @@ impl Machine {
     // The event of an instruction that ended, and the state after it.
     #[tactic(auto, unfolding(ibx_arch::specs::Step::finished))]
     fn finish(&mut self, cycle: u64, word: u32, ops: Option<(u32, u32)>, done: Done) -> Event
-        requires cycle { cycle < 2 ^ 62 }
+        requires cycle { cycle + 1 < 2 ^ 64 }
         requires register { HasRegister done }
         requires word { IsWordOrHalf word }
         ensures stepped { stepped_to result self.new ≡ finished self.old.pc self.old.regs cycle word ops

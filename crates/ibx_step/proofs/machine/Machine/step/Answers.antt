@@ -1,7 +1,7 @@
 use Rattle.std.proofs.Common.{◌∙◌, sym, arith}
 use Rattle.ibx_arch.specs.Step.{present_step}
 use Rattle.ibx_step.specs.Machines.{state_of, stepped_to}
-use Rattle.ibx_step.proofs.Steps.{IsPrepared, steps_none, steps_some, step_waits, step_goes, carried_aligned}
+use Rattle.ibx_step.proofs.Steps.{steps_none, steps_some, step_waits, step_goes, carried_aligned}
 use Rattle.ibx_step.proofs.machine.Machine.step.Goals as goal
 
 pub returns-then-waits-clause-stepped : goal.returns-then-waits-clause-stepped

@@ -1,6 +1,6 @@
 use Rattle.std.proofs.Common.{◌∙◌, ap, sym, subst, arith}
 use Rattle.ibx_arch.specs.Laws.{IsAligned}
-use Rattle.ibx_arch.specs.Step.{Stepped, Interrupt, Parcels, step_with}
+use Rattle.ibx_arch.specs.Step.{Stepped, Interrupt, step_with}
 use Rattle.ibx_arch.proofs.Aligned.{stays_aligned}
 use Rattle.ibx_step.specs.Machines.{state_of, stepped_to, choice_of}
 use Rattle.ibx_step.proofs.Steps.{carried_prepared, interrupt_step, carried_aligned}
