@@ -1,14 +1,21 @@
--- A text's labels and its code, one line at a time.
+-- A text's lines and its code, one line at a time.
 use Rattle.std.proofs.Common.{◌≡◌, ℕ, ◌+◌, ◌/◌, ◌%◌, ◌≤◌, zero, suc, List, [], ◌∷◌, ◌++◌, length, take, Option, Some}
-use Rattle.std.proofs.Common.{None, is_some, false, MatchOption, Result, Ok, Err, refl, sym, ap, arith, append_assoc}
+use Rattle.std.proofs.Common.{None, Result, Ok, Err, refl, sym, ap, arith, append_assoc}
 use Rattle.std.proofs.Common.{append-nil}
+use Rattle.std.proofs.Common.{◌<◌, map, drop, drop-cons, get_or, add-one}
+use Rattle.std.proofs.Math.Seq.{take-suc}
+use Rattle.std.proofs.lemmas.List.{map-append, drop_all}
+use Rattle.std.proofs.lemmas.List.Elements.{filter_map-append}
 use Rattle.std.specs.Int.{bytes_low_first}
+use Rattle.std.specs.Option.{option_map_or}
 use Rattle.std.specs.Str.Lines.{lines}
 use Rattle.ibx_asm.specs.declared.fault.AsmFault.{AsmFault}
 use Rattle.ibx_asm.specs.declared.fault.AsmFault.TheVariants as fault
 use Rattle.ibx_asm.specs.declared.fault.AsmKind.{AsmKind}
+use Rattle.ibx_asm.specs.declared.line.Line.{Line}
+use Rattle.ibx_asm.specs.Held.{stands}
 use Rattle.ibx_asm.specs.Operands.{Defined}
-use Rattle.ibx_asm.specs.Denote.{placed, label_of, instruction_of, size_of, labels_of, before, code_of, code_of_all}
+use Rattle.ibx_asm.specs.Denote.{Placed, placed, defined, label_of, size_of, labels_of, before, code_of, code_of_all}
 use Rattle.ibx_asm.specs.Text.{tokens, without_comment}
 
 -- code that was made, and what is to come
@@ -21,37 +28,21 @@ no_rest : (rest : List ℕ) → length rest ≡ 0 → lines rest ≡ []
 no_rest [] h = refl
 no_rest (x ∷ rest) h = absurd (omega arith)
 
--- at the end of a text nothing is to come
-pub no_labels : (number address : ℕ) (rest : List ℕ) (labels : List Defined) → length rest ≡ 0 → labels ++ labels_of
-    (placed number address (lines rest)) ≡ labels
+-- at the end of a text no line is to come
+pub none_placed : (number address : ℕ) (rest : List ℕ) (all : List Placed) → length rest ≡ 0 → all ++ placed number
+    address (lines rest) ≡ all
 unfolding placed
-no_labels number address rest labels h = rw (no_rest rest h) (append-nil labels)
+none_placed number address rest all h = rw (no_rest rest h) (append-nil all)
 
--- nor any code
-pub no_code : (labels : List Defined) (number address : ℕ) (rest code : List ℕ) → length rest ≡ 0 → after code
-    (code_of_all labels (placed number address (lines rest))) ≡ Ok code
-unfolding placed code_of_all
-no_code labels number address rest code h = rw (no_rest rest h) (ap Ok (append-nil code))
-
--- the labels of a line and of those after it
-pub one_label : (number address size : ℕ) (text line rest said : List ℕ) (labels : List Defined) (name : List ℕ) →
-    lines text ≡ line ∷ lines rest → said ≡ without_comment line
-    → size ≡ size_of (tokens said) → Some name ≡ label_of (tokens said)
-    → labels ++ labels_of (placed number address (lines text))
-    ≡ (labels ++ record { name = name; line = number; address = address } ∷ []) ++ labels_of
-    (placed (number + 1) (address + size) (lines rest))
+-- a line and those after it
+pub one_placed : (number address size : ℕ) (text line rest said : List ℕ) (all : List Placed) → lines text ≡ line ∷
+    lines rest → said ≡ without_comment line → size ≡ size_of (tokens said)
+    → all ++ placed number address (lines text)
+    ≡ (all ++ record { number = number; address = address; line = tokens said } ∷ []) ++ placed (number + 1)
+    (address + size) (lines rest)
 unfolding placed
-one_label number address size text line rest said labels name cut is long here = rw (cut, ← is, ← long, ← here)
-    (sym (append_assoc labels _ _))
-
--- the same of a line that defines none
-pub not_label : (number address size : ℕ) (text line rest said : List ℕ) (labels : List Defined) → lines text ≡ line ∷
-    lines rest → said ≡ without_comment line
-    → size ≡ size_of (tokens said) → None ≡ label_of (tokens said)
-    → labels ++ labels_of (placed number address (lines text)) ≡ labels ++ labels_of
-    (placed (number + 1) (address + size) (lines rest))
-unfolding placed
-not_label number address size text line rest said labels cut is long here = rw (cut, ← is, ← long, ← here) refl
+one_placed number address size text line rest said all cut is long = rw (cut, ← is, ← long)
+    (sym (append_assoc all _ _))
 
 -- the code of one more line
 joined : (code bytes : List ℕ) (number : ℕ) (later : Result (List ℕ) AsmFault) → after code
@@ -60,33 +51,46 @@ joined code bytes number (Ok more) = ap Ok (sym (append_assoc code bytes more))
 joined code bytes number (Err f) = refl
 
 -- the code of a line and of those after it
-pub one_line : (labels : List Defined) (number address size : ℕ) (text line rest said code bytes : List ℕ) → lines text
-    ≡ line ∷ lines rest → said ≡ without_comment line
-    → size ≡ size_of (tokens said) → Ok bytes ≡ code_of labels
-    (record { number = number; address = address; line = tokens said })
-    → after code (code_of_all labels (placed number address (lines text))) ≡ after (code ++ bytes)
-    (code_of_all labels (placed (number + 1) (address + size) (lines rest)))
-unfolding placed code_of_all
-one_line labels number address size text line rest said code bytes cut is long here = rw (cut, ← is, ← long, ← here)
-    (joined code bytes number _)
+pub one_line : (labels : List Defined) (all : List Line) (i : ℕ) (code bytes : List ℕ) (d : Line) → i < length all → Ok
+    bytes ≡ code_of labels (stands (get_or all i d))
+    → after code (code_of_all labels (map stands (drop i all))) ≡ after (code ++ bytes)
+    (code_of_all labels (map stands (drop (i + 1) all)))
+unfolding code_of_all
+one_line labels all i code bytes d below here = rw (add-one i, drop-cons all i d below, ← here)
+    (joined code bytes (get_or all i d).number _)
 
 -- a line that is refused
-pub refused : (labels : List Defined) (number address : ℕ) (text line rest said code : List ℕ) (k : AsmKind) → lines
-    text ≡ line ∷ lines rest → said ≡ without_comment line
-    → Err k ≡ code_of labels (record { number = number; address = address; line = tokens said })
-    → after code (code_of_all labels (placed number address (lines text))) ≡ Err (fault.Line number k)
-unfolding placed code_of_all
-refused labels number address text line rest said code k cut is here = rw (cut, ← is, ← here) refl
+pub refused : (labels : List Defined) (all : List Line) (i : ℕ) (code : List ℕ) (k : AsmKind) (d : Line) → i < length
+    all → Err k ≡ code_of labels (stands (get_or all i d))
+    → after code (code_of_all labels (map stands (drop i all))) ≡ Err (fault.Line (get_or all i d).number k)
+unfolding code_of_all
+refused labels all i code k d below here = rw (drop-cons all i d below, ← here) refl
 
--- the fact of a call that gave nothing
-pub none_given : {X : Type 0} (o : Option X) (P : Type 0) (Q : X → Type 0) → is_some o ≡ false → MatchOption o P Q → P
-none_given None P Q h k = k
-none_given (Some x) P Q h k = cc
+-- at the end no code is to come
+pub no_code : (labels : List Defined) (all : List Line) (i : ℕ) (code : List ℕ) → length all ≤ i → after code
+    (code_of_all labels (map stands (drop i all))) ≡ Ok code
+unfolding code_of_all
+no_code labels all i code past = rw (drop_all i all past) (ap Ok (append-nil code))
 
--- an empty line has no bytes
-pub empty_size : (line : List (List ℕ)) → line ≡ [] → 0 ≡ size_of line
-unfolding label_of instruction_of
-empty_size line h = rw h refl
+-- what a line defines, as a list
+one_defined : (p : Placed) (name : Option (List ℕ)) → name ≡ label_of p.line → labels_of (p ∷ []) ≡ option_map_or
+    (λ name. record { name = name; line = p.number; address = p.address } ∷ []) name []
+one_defined p None here = rw (← here) refl
+one_defined p (Some name) here = rw (← here) refl
+
+-- the labels of one more line, which defines this name or none
+pub one_label : (all : List Line) (i : ℕ) (d : Line) (name : Option (List ℕ)) → i < length all → name ≡ label_of
+    (tokens (get_or all i d).text.now) → labels_of (map stands (take (i + 1) all)) ≡ labels_of
+    (map stands (take i all)) ++ option_map_or (λ name. record {
+      name = name;
+      line = (get_or all i d).number;
+      address = (get_or all i d).address;
+    } ∷ []) name []
+one_label all i d name below here =
+    let cut : labels_of (map stands (take (i + 1) all)) ≡ labels_of (map stands (take i all)) ++ labels_of
+    (stands (get_or all i d) ∷ []) = rw (add-one i, take-suc all i d below, map-append stands (take i all) _)
+    (filter_map-append defined (map stands (take i all)) _) in
+    rw cut (ap (λ more. labels_of (map stands (take i all)) ++ more) (one_defined (stands (get_or all i d)) name here))
 
 -- the lowest bytes of a word
 pub low_bytes : (size word : ℕ) → size ≤ 4

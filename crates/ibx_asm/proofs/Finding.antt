@@ -1,9 +1,13 @@
 -- What is found in a list, and in the list of what its elements stand for.
-use Rattle.std.proofs.Common.{◌≡◌, ℕ, ◌≤◌, Bool, true, nat_le, List, [], ◌∷◌, map, Option, Some, None, IfSome, refl}
-use Rattle.std.proofs.Common.{ap}
+use Rattle.std.proofs.Common.{◌≡◌, ℕ, ◌≤◌, Bool, true, nat_le, List, [], ◌∷◌, ◌++◌, length, take, get_or, ◌+◌, ◌<◌, if◌then◌else◌, map, Option, Some, None, IfSome, refl}
+use Rattle.std.proofs.Common.{ap, add-one, not, length-append, length-take}
 use Rattle.std.proofs.Common.{◌∙◌, inl, inr, arith}
-use Rattle.std.specs.List.{find, list_all}
-use Rattle.std.specs.Option.{option_map}
+use Rattle.std.specs.List.{find, list_all, position, position_or_len, slice_get}
+use Rattle.std.specs.Option.{option_map, option_or, option_and_then}
+use Rattle.std.proofs.lemmas.List.Folds.{find_at, position_or_len_push}
+use Rattle.std.proofs.lemmas.Option.{slice_get_past}
+use Rattle.std.proofs.lemmas.List.Sums.{prefix_len-le-length}
+use Rattle.std.proofs.Math.Seq.{take-suc}
 use Rattle.std.specs.Str.{bytes_eq}
 use Rattle.std.proofs.lemmas.Bool.{cases_Bool, and_parts}
 use Rattle.ibx_asm.specs.declared.rows.Encoding.{Encoding}
@@ -19,6 +23,18 @@ find_mapped h p (x ∷ xs) = elim (cases_Bool (p (h x))) [
   | inl f ↦ rw f refl
   | inr f ↦ rw f (find_mapped h p xs)
 ]
+
+-- the element at the first place that passes is the first that passes
+pub at_first : {X : Type 0} (p : X → Bool) (xs : List X) (place : Option ℕ) → place ≡ position p xs → option_and_then
+    (slice_get xs) place ≡ find p xs
+at_first p xs place h = grind (arith, find_at p xs, slice_get_past xs (position_or_len p xs))
+
+-- the first place that passes, with one more element
+pub one_more : {X : Type 0} (p : X → Bool) (xs : List X) (i : ℕ) (d : X) → i < length xs → position p
+    (take (i + 1) xs) ≡ option_or (position p (take i xs)) (if p (get_or xs i d) then Some i else None)
+one_more p xs i d below =
+    let one : take (i + 1) xs ≡ take i xs ++ get_or xs i d ∷ [] = rw (add-one i) (take-suc xs i d below) in
+    rw one (grind (arith, position_or_len_push p (take i xs) (get_or xs i d), length-take, length-append, prefix_len-le-length (λ x. not (p x)) (take i xs)))
 
 -- what is found passes each test that all elements pass
 pub found_passes : {X : Type 0} (p test : X → Bool) (xs : List X) → list_all test xs ≡ true → IfSome (find p xs)

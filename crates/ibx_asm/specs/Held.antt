@@ -1,21 +1,42 @@
 -- What the code holds stands for.
-use Rattle.std.specs.Prelude.{ℕ, bit_and, List, [], ◌∷◌, Result, Ok, Err}
+use Rattle.std.specs.Prelude.{◌≡◌, ℕ, bit_and, List, [], ◌∷◌, Option, Result, Ok, Err}
+use Rattle.std.specs.Borrow.{Bor}
+use Rattle.std.specs.BTreeMap.{BTreeMap, get_by}
+use Rattle.std.specs.Cmp.Lexicographic.{slice_cmp}
 use Rattle.std.specs.Int.{bytes_low_first}
+use Rattle.std.specs.List.{position}
+use Rattle.std.specs.Ordering.{nat_cmp}
+use Rattle.std.specs.Str.{bytes_eq}
 use Rattle.ibx_asm.specs.declared.fault.AsmKind.{AsmKind}
 use Rattle.ibx_asm.specs.declared.labels.Label.{Label}
 use Rattle.ibx_asm.specs.declared.line.Code.{Code}
+use Rattle.ibx_asm.specs.declared.line.Line.{Line}
 use Rattle.ibx_asm.specs.declared.rows.Encoding.{Encoding}
 use Rattle.ibx_asm.specs.declared.rows.Row.{Row}
 use Rattle.ibx_asm.specs.declared.slot.Form.{Form}
 use Rattle.ibx_asm.specs.declared.slot.Form.TheVariants as form
 use Rattle.ibx_asm.specs.declared.slot.Slot.{Slot}
 use Rattle.ibx_asm.specs.declared.slot.Slot.TheVariants as slot
+use Rattle.ibx_asm.specs.Denote.{Placed}
 use Rattle.ibx_asm.specs.Dis.{Pattern}
 use Rattle.ibx_asm.specs.Operands.{Defined}
+use Rattle.ibx_asm.specs.Text.{tokens}
 
 -- the definition of a label
 abbrev pub meant : Label → Defined
 meant label = record { name = label.name.now; line = label.line; address = label.address }
+
+-- a line as its tokens
+abbrev pub stands : Line → Placed
+stands line = record { number = line.number; address = line.address; line = tokens line.text.now }
+
+-- the place that an index gives for a name
+abbrev pub place_in : BTreeMap (Bor (List ℕ)) ℕ → List ℕ → Option ℕ
+place_in index name = get_by (λ key. slice_cmp nat_cmp name key.now) index
+
+-- an index gives for each name the place of its first definition
+abbrev pub IsIndexOf : BTreeMap (Bor (List ℕ)) ℕ → List Label → Type 0
+IsIndexOf index labels = (name : List ℕ) → place_in index name ≡ position (λ label. bytes_eq label.name.now name) labels
 
 -- the bytes of a line's code
 abbrev pub bytes_of : Code → List ℕ

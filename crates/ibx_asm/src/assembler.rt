@@ -1,22 +1,24 @@
-ghost use Rattle.std.specs.Prelude.{◌≡◌, ◌+◌, ◌*◌, ◌<◌, ◌≤◌, ◌^◌, length, IfOk};
+ghost use Rattle.std.specs.Prelude.{◌≡◌, ◌+◌, ◌*◌, ◌<◌, ◌≤◌, ◌^◌, length, map, IfOk};
 ghost use Rattle.std.specs.Str.Lines.{lines};
 ghost use Rattle.ibx_asm.specs.Denote.{code_base, placed, labels_of, code_of_all, denoted, Assembles};
+ghost use Rattle.ibx_asm.specs.Held.{stands};
 
 use crate::fault::AsmFault;
 use crate::labels::{Label, Labels};
-use crate::line::{code_of, label_of, size_of};
+use crate::line::{Line, code_of, label_of, size_of};
 use crate::text::{first_line, without_comment};
 use std::alloc::{AllocError, Global};
 
 // The byte address of the code's first line.
 const CODE_BASE: u64 = 0x10_0080;
 
-// The labels of a text, in the order of their definitions.
-fn labels_of(alloc: Global, text: &[u8]) -> Result<Labels<'_>, AllocError>
+// The lines of a text. The code of each follows that of the line before.
+fn placed(alloc: Global, text: &[u8]) -> Result<Vec<Line<'_>>, AllocError>
     requires { length text.now < 2 ^ 32 }
-    ensures { IfOk result (λ labels. labels ≡ labels_of (placed 1 code_base (lines text.now))) }
+    ensures value { IfOk result (λ all. map stands all.items ≡ placed 1 code_base (lines text.now)) }
+    ensures few { IfOk result (λ all. length all.items ≤ length text.now) }
 {
-    let mut labels = Labels::empty(alloc);
+    let mut all = Vec::new(alloc);
     let mut address = CODE_BASE;
     let mut number = 0u32;
     let mut rest = text;
@@ -24,39 +26,46 @@ fn labels_of(alloc: Global, text: &[u8]) -> Result<Labels<'_>, AllocError>
         let (line, after) = first_line(rest);
         let line = without_comment(line);
         number += 1;
-        if let Some(name) = label_of(line) {
-            labels.add(Label {
-                name,
-                line: number,
-                address,
-            })?;
-        }
+        all.push(Line {
+            number,
+            address,
+            text: line,
+        })?;
         address += u64::from(size_of(line));
         rest = after;
     }
-    Ok(labels)
+    Ok(all)
 }
 
-// The code of the lines of a text that has these labels.
-fn code_of_all(alloc: Global, text: &[u8], labels: &Labels) -> Result<Vec<u8>, AsmFault>
-    requires { length text.now < 2 ^ 32 }
-    ensures value { Assembles result (code_of_all labels.now (placed 1 code_base (lines text.now))) }
-    ensures size { IfOk result (λ code. length code.items ≤ 4 * length text.now) }
+// The labels that lines define, in the order of their definitions.
+fn labels_of<'a>(alloc: Global, all: &[Line<'a>]) -> Result<Labels<'a>, AllocError>
+    ensures { IfOk result (λ labels. labels ≡ labels_of (map stands all.now)) }
+{
+    let mut labels = Vec::new(alloc);
+    for line in all {
+        if let Some(name) = label_of(line.text) {
+            labels.push(Label {
+                name,
+                line: line.number,
+                address: line.address,
+            })?;
+        }
+    }
+    Labels::new(alloc, labels)
+}
+
+// The code of lines of a text that has these labels.
+fn code_of_all(alloc: Global, all: &[Line], labels: &Labels) -> Result<Vec<u8>, AsmFault>
+    ensures value { Assembles result (code_of_all labels.now (map stands all.now)) }
+    ensures size { IfOk result (λ code. length code.items ≤ 4 * length all.now) }
 {
     let mut code = Vec::new(alloc);
-    let mut address = CODE_BASE;
-    let mut number = 0u32;
-    let mut rest = text;
-    while !rest.is_empty() {
-        let (line, after) = first_line(rest);
-        number += 1;
-        let bytes = match code_of(without_comment(line), number, address, labels) {
+    for line in all {
+        let bytes = match code_of(*line, labels) {
             Ok(bytes) => bytes,
-            Err(kind) => return Err(AsmFault::Line(number, kind)),
+            Err(kind) => return Err(AsmFault::Line(line.number, kind)),
         };
         code.extend_from_slice(&bytes.word.to_le_bytes()[..bytes.size as usize])?;
-        address += u64::from(bytes.size);
-        rest = after;
     }
     Ok(code)
 }
@@ -77,6 +86,7 @@ pub fn assemble(alloc: Global, text: &[u8]) -> Result<Vec<u8>, AsmFault>
     // No line has more than four bytes of code.
     ensures size { IfOk result (λ code. length code.items ≤ 4 * length text.now) }
 {
-    let labels = labels_of(alloc, text)?;
-    code_of_all(alloc, text, &labels)
+    let all = placed(alloc, text)?;
+    let labels = labels_of(alloc, all.as_slice())?;
+    code_of_all(alloc, all.as_slice(), &labels)
 }

@@ -1,11 +1,10 @@
-ghost use Rattle.std.specs.Prelude.{◌≡◌, ◌∷◌, ◌++◌, [], List, map, Ok, IfOk};
-ghost use Rattle.std.specs.List.{find};
+ghost use Rattle.std.specs.Prelude.{◌≡◌, IfOk, map};
 ghost use Rattle.std.specs.Option.{option_map};
-ghost use Rattle.std.specs.Str.{bytes_eq};
-ghost use Rattle.ibx_asm.specs.Held.{meant};
+ghost use Rattle.ibx_asm.specs.Held.{meant, IsIndexOf};
 ghost use Rattle.ibx_asm.specs.Operands.{Defined, definition_of};
 
 use std::alloc::{AllocError, Global};
+use std::collections::BTreeMap;
 use std::marker::Model;
 
 /// A label, the line that defines it, and its byte address.
@@ -20,47 +19,53 @@ pub(crate) struct Label<'a> {
 #[derive(Drop)]
 pub(crate) struct Labels<'a> {
     labels: Vec<Label<'a>>,
+    // The place of the first definition of each name.
+    first: BTreeMap<&'a [u8], usize>,
 }
 
 impl<'a> Model for Labels<'a> {
     ghost use Rattle.std.specs.Prelude.{List, map};
-    ghost use Rattle.ibx_asm.specs.Held.{meant};
+    ghost use Rattle.ibx_asm.specs.Held.{meant, IsIndexOf};
     ghost use Rattle.ibx_asm.specs.Operands.{Defined};
 
     ghost Value = { List Defined };
 
     ghost view = { λ l. map meant l.labels.items };
+
+    ghost invariant = { λ l. IsIndexOf l.first l.labels.items };
 }
 
-fn first_named<'a, 'b>(labels: &'b [Label<'a>], name: &[u8]) -> Option<&'b Label<'a>>
-    ensures { option_map (λ label. label.now) result ≡ find (λ label. bytes_eq label.name.now name.now) labels.now }
+// An index of labels by their names. A tree compares a name with few others, whatever the text: each time at most the
+// bytes of the name.
+fn index_of<'a>(
+    alloc: Global,
+    labels: &[Label<'a>],
+) -> Result<BTreeMap<&'a [u8], usize>, AllocError>
+    ensures { IfOk result (λ index. IsIndexOf index labels.now) }
 {
-    labels.iter().find(|label| label.name == name)
+    let mut first = BTreeMap::new(alloc);
+    for (place, label) in labels.iter().enumerate() {
+        if !first.contains_key(label.name) {
+            first.insert(label.name, place)?;
+        }
+    }
+    Ok(first)
 }
 
 impl<'a> Labels<'a> {
-    /// No label.
-    pub(crate) fn empty(alloc: Global) -> Labels<'a>
-        ensures { result ≡ [] }
+    /// These labels.
+    pub(crate) fn new(alloc: Global, labels: Vec<Label<'a>>) -> Result<Labels<'a>, AllocError>
+        ensures { IfOk result (λ new. new ≡ map meant labels.entry.items) }
     {
-        Labels {
-            labels: Vec::new(alloc),
-        }
-    }
-
-    /// Adds a definition.
-    pub(crate) fn add(&mut self, label: Label<'a>) -> Result<(), AllocError>
-        ensures { IfOk result (λ _. self.new ≡ self.old ++ meant label.entry ∷ []) }
-    {
-        self.labels.push(label)?;
-        Ok(())
+        let first = index_of(alloc, labels.as_slice())?;
+        Ok(Labels { labels, first })
     }
 
     /// The first definition of a name.
-    #[tactic(auto, using(crate::proofs::Finding::find_mapped))]
     pub(crate) fn find(&self, name: &[u8]) -> Option<Label<'a>>
         ensures { option_map meant result ≡ definition_of self.now name.now }
     {
-        first_named(self.labels.as_slice(), name).copied()
+        let place = self.first.get(name)?;
+        self.labels.get(*place).copied()
     }
 }

@@ -1,7 +1,7 @@
 ghost use Rattle.std.specs.Prelude.{◌≡◌, ◌≤◌, IfOk, IfSome, drop};
 ghost use Rattle.std.specs.List.{fold, zip};
 ghost use Rattle.std.specs.Option.{option_map};
-ghost use Rattle.ibx_asm.specs.Held.{coded};
+ghost use Rattle.ibx_asm.specs.Held.{coded, stands};
 ghost use Rattle.ibx_asm.specs.Denote.{are_operands, instruction_of, size_of, label_of, in_range, known, with_operand};
 ghost use Rattle.ibx_asm.specs.Denote.{code_with, code_of_label, code_of};
 ghost use Rattle.ibx_asm.specs.Forms.{slots_of};
@@ -13,6 +13,14 @@ use crate::operand::is_name;
 use crate::rows::{Encoding, encoding_of};
 use crate::slot::{Slot, slots_of};
 use crate::text::first_token;
+
+/// A line of a text without its comment, its number, counted from 1, and the byte address of its code.
+#[derive(Clone, Copy)]
+pub(crate) struct Line<'a> {
+    pub(crate) number: u32,
+    pub(crate) address: u64,
+    pub(crate) text: &'a [u8],
+}
 
 /// The code of a line: the lowest `size` bytes of a word.
 #[derive(Clone, Copy)]
@@ -164,27 +172,20 @@ fn code_of_label(name: &[u8], number: u32, labels: &Labels) -> Result<Code, AsmK
     }
 }
 
-/// The code of a line without comment, which has this number and byte address, or why it is refused.
+/// The code of a line, or why it is refused.
 #[tactic(auto, unfolding(crate::specs::Denote::code_of))]
-pub(crate) fn code_of(
-    text: &[u8],
-    number: u32,
-    address: u64,
-    labels: &Labels,
-) -> Result<Code, AsmKind>
-    ensures value { coded result
-        ≡ code_of labels.now (record { number = number; address = address; line = tokens text.now }) }
-    ensures size { IfOk result (λ code. code.size ≡ size_of (tokens text.now)) }
-    ensures short { IfOk result (λ code. code.size ≤ 4) }
+pub(crate) fn code_of(line: Line, labels: &Labels) -> Result<Code, AsmKind>
+    ensures value { coded result ≡ code_of labels.now (stands line.entry) }
+    ensures size { IfOk result (λ code. code.size ≤ 4) }
 {
-    if let Some(name) = label_of(text) {
-        return code_of_label(name, number, labels);
+    if let Some(name) = label_of(line.text) {
+        return code_of_label(name, line.number, labels);
     }
-    if first_token(text).is_none() {
+    if first_token(line.text).is_none() {
         return Ok(Code { word: 0, size: 0 });
     }
-    match instruction_of(text) {
-        Some((encoding, operands)) => code_with(encoding, operands, labels, address),
+    match instruction_of(line.text) {
+        Some((encoding, operands)) => code_with(encoding, operands, labels, line.address),
         None => Err(AsmKind::Word),
     }
 }

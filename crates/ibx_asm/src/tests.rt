@@ -167,7 +167,7 @@ fn shows_what_is_no_instruction_as_data(rt: HostRuntime) -> Result<(), Fail> {
 
 #[test]
 fn assembles_texts(rt: HostRuntime) -> Result<(), Fail> {
-    let rows: [(&str, &[u8]); 10] = [
+    let rows: [(&str, &[u8]); 11] = [
         ("", &[]),
         (
             "lui x6, 0x00020\naddi x7, x0, 1\nsw x7, 8(x6)\n",
@@ -190,6 +190,11 @@ fn assembles_texts(rt: HostRuntime) -> Result<(), Fail> {
         (".byte 0xfF\n.byte -0", &[0xff, 0]),
         // a mnemonic may be a label, and so may a register
         ("addi : \nx1:\nc.j addi\nc.j x1", &[0x01, 0xa0, 0xfd, 0xbf]),
+        // names that begin alike, each at its own address
+        (
+            "a:\n.half 1\naa:\n.half 2\nab:\nc.j a\nc.j aa\nc.j ab",
+            &[1, 0, 2, 0, 0xf5, 0xbf, 0xf5, 0xbf, 0xf5, 0xbf],
+        ),
         // addresses may be odd
         (
             ".byte 1\na:\n.byte 2\nb:\n.byte 3\nc.j a",
@@ -274,6 +279,10 @@ fn refuses_lines(rt: HostRuntime) -> Result<(), Fail> {
         ("c.beqz x7, nowhere", 1, AsmKind::Range),
         ("a:\nb:\n\na:\nmov", 4, AsmKind::Label),
         ("c.j a\nmov\na:\na:", 2, AsmKind::Word),
+        // a name is no definition of one that begins with it
+        ("aa:\nab:\nc.j a", 3, AsmKind::Label),
+        // the first definition counts: the branch reaches it, and not the last
+        ("a:\nc.bnez x8, a\n.word 1\na:", 4, AsmKind::Label),
         // a line that is refused for its range has its length: the label is too far away by the second line's
         ("c.bnez x8, far\n.word -1\nfar:", 2, AsmKind::Range),
     ];
