@@ -1,10 +1,10 @@
--- What is answered to bytes, case by case.
-use Rattle.std.proofs.Common.{◌≡◌, ℕ, ◌<◌, ◌≤◌, ◌⊎◌, inl, inr, Bool, true, false, List, [], ◌∷◌, Option, Some, None}
+-- What is answered to the bytes of files, case by case.
+use Rattle.std.proofs.Common.{◌≡◌, ℕ, ◌<◌, ◌≤◌, Bool, true, false, List, [], ◌∷◌, Option, Some, None}
 use Rattle.std.proofs.Common.{Result, Ok, Err, length, refl, sym, ap, ◌∙◌, subst, arith}
 use Rattle.std.specs.Prelude.{nat_lt, is_some}
 use Rattle.std.proofs.lemmas.Bool.Decides.{nat_tests}
 use Rattle.std.proofs.lemmas.Option.{same_Some}
-use Rattle.ibx_base.specs.Files.{Contents}
+use Rattle.ibx_base.specs.Files.{Contents, IsContent}
 use Rattle.ibx_elf.specs.declared.fault.ElfFault.{ElfFault}
 use Rattle.ibx_elf.specs.declared.ram.Ram.{Ram}
 use Rattle.ibx_elf.specs.Faults.{first_fault}
@@ -16,321 +16,296 @@ use Rattle.ibx_plan.specs.Plan.{PlanValue, empty_plan, plan_of, Fails}
 use Rattle.ibx_command.specs.declared.options.Options.{Options}
 use Rattle.ibx_command.specs.Command.{Meaning, Running, Injecting}
 use Rattle.ibx_command.specs.Command.{Twinning, Generating, Assembling, Disassembling}
-use Rattle.ibx_top.specs.Verdicts.{verdict_of}
-use Rattle.ibx_top.specs.ErrLines.{too_long_line, fault_line, plan_fault_line}
-use Rattle.ibx_top.specs.declared.task.Task.{Task}
-use Rattle.ibx_top.specs.declared.task.Task.TheVariants.{Run, Inject}
-use Rattle.ibx_top.specs.TimedStories.{timed_story}
 use Rattle.ibx_gen.specs.Image.{default_ram}
 use Rattle.ibx_gen.specs.Words.{generated}
-use Rattle.ibx_top.specs.Answers.{Answer, refusal, file_limit, plan_limit, file_answer_by, file_answer, plan_answer_by}
-use Rattle.ibx_top.specs.Answers.{plan_answer, setup_of, halt_code, alert_code, done, bounds_of, planned_answer}
-use Rattle.ibx_top.proofs.Twins.{one_twin, twin_plain_codes, twin_planned_codes}
-use Rattle.ibx_top.specs.Answers.{plain_answer, IsAnswerTo, IsPlannedBy, IsPlanned, IsAnswer, codes_of, IsOneOf}
-use Rattle.ibx_top.specs.Answers.{listed, asm_answer, dis_answer, generated_by}
+use Rattle.ibx_top.specs.declared.outcome.Refusal.TheVariants as why
+use Rattle.ibx_top.specs.TimedStories.{timed_story}
+use Rattle.ibx_top.specs.Twins.{differs, twin_code}
+use Rattle.ibx_top.specs.Verdicts.{verdict_of}
+use Rattle.ibx_top.specs.Answers.{Answer, IsAnswer, IsAnsweredBy, IsBytesAnswer, IsFileAnswer, IsFollowedBy}
+use Rattle.ibx_top.specs.Answers.{IsInjectBy, IsInjectedBy, IsPair, IsRanBy, IsRunBy, IsTwinnedBy}
+use Rattle.ibx_top.specs.Answers.{IsOneOf, IsPlanAnswer, IsPlanIn, IsTextAnswer, IsSecond, alert_code, asm_answer}
+use Rattle.ibx_top.specs.Answers.{bounds_of, codes_of, compared_by, file_limit, generated_by, halt_code, injected_by}
+use Rattle.ibx_top.specs.Answers.{listed, plan_codes, plan_limit, ran_by, refused, run_codes, setup_of, twinned_by}
 use Rattle.ibx_top.proofs.Assembled.{asm_codes}
 
 -- more bytes than a limit are told to be too long
-is_long : (limit : ℕ) (bytes : List ℕ) → limit < length bytes → nat_lt limit (length bytes) ≡ true
+pub is_long : (limit : ℕ) (bytes : List ℕ) → limit < length bytes → nat_lt limit (length bytes) ≡ true
 is_long limit bytes h = grind (arith, nat_tests)
 
 -- as many as the limit or fewer are not
-is_short : (limit : ℕ) (bytes : List ℕ) → length bytes ≤ limit → nat_lt limit (length bytes) ≡ false
+pub is_short : (limit : ℕ) (bytes : List ℕ) → length bytes ≤ limit → nat_lt limit (length bytes) ≡ false
 is_short limit bytes h = grind (arith, nat_tests)
 
--- a file of too many bytes
-pub long_file : (name : List ℕ) (ram : Ram) (ran : Placed → Answer) (bytes : List ℕ) → file_limit < length bytes →
-    file_answer name ram ran bytes ≡ refusal 5 (too_long_line name)
-unfolding file_answer_by
-long_file name ram ran bytes h = ap (λ (b : Bool). file_answer_by name b (first_fault bytes ram)
-    (ran (image_of bytes ram))) (is_long file_limit bytes h)
+-- ---- files
 
--- a file that is refused
-pub bad_file : (name : List ℕ) (ram : Ram) (ran : Placed → Answer) (bytes : List ℕ) (fault : ElfFault) → length bytes ≤
-    file_limit → first_fault bytes ram ≡ Some fault
-    → file_answer name ram ran bytes ≡ refusal 5 (fault_line name fault)
-unfolding file_answer_by
-bad_file name ram ran bytes fault h e =
-    ap (λ (b : Bool). file_answer_by name b (first_fault bytes ram) (ran (image_of bytes ram)))
-    (is_short file_limit bytes h)
-    ∙ ap (λ (f : Option ElfFault). file_answer_by name false f (ran (image_of bytes ram))) e
+module _ (name : List ℕ) (ram : Ram) (Ran : Placed → Answer → Type 0) (bytes : List ℕ) where
+  -- a file of too many bytes
+  pub long_bytes : file_limit < length bytes → IsBytesAnswer name ram Ran bytes (refused name why.FileTooLong)
+  long_bytes more =
+      subst (λ (b : Bool). IsAnsweredBy name b (first_fault bytes ram) (Ran (image_of bytes ram))
+      (refused name why.FileTooLong)) (sym (is_long file_limit bytes more)) refl
 
--- a file that is run
-pub good_file : (name : List ℕ) (ram : Ram) (ran : Placed → Answer) (bytes : List ℕ) → length bytes ≤ file_limit →
-    first_fault bytes ram ≡ None
-    → file_answer name ram ran bytes ≡ ran (image_of bytes ram)
-unfolding file_answer_by
-good_file name ram ran bytes h e =
-    ap (λ (b : Bool). file_answer_by name b (first_fault bytes ram) (ran (image_of bytes ram)))
-    (is_short file_limit bytes h)
-    ∙ ap (λ (f : Option ElfFault). file_answer_by name false f (ran (image_of bytes ram))) e
+  -- a file that is refused
+  pub bad_bytes : (fault : ElfFault) → length bytes ≤ file_limit → first_fault bytes ram ≡ Some fault
+      → IsBytesAnswer name ram Ran bytes (refused name (why.File fault))
+  bad_bytes fault fits e =
+      let answer : Answer = refused name (why.File fault) in
+      subst (λ (b : Bool). IsAnsweredBy name b (first_fault bytes ram) (Ran (image_of bytes ram)) answer)
+      (sym (is_short file_limit bytes fits))
+      (subst (λ (f : Option ElfFault). IsAnsweredBy name false f (Ran (image_of bytes ram)) answer) (sym e) refl)
 
--- a plan of too many bytes
-long_plan : (name : List ℕ) (bounds : Bounds) (followed : PlanValue → Answer) (text : List ℕ) → plan_limit < length
-    text → plan_answer name bounds followed text ≡ refusal 6 (too_long_line name)
-unfolding plan_answer_by
-long_plan name bounds followed text h = ap (λ (b : Bool). plan_answer_by name b (plan_of bounds text) followed)
-    (is_long plan_limit text h)
+  -- a file that is run
+  pub good_bytes : (answer : Answer) → length bytes ≤ file_limit → first_fault bytes ram ≡ None
+      → Ran (image_of bytes ram) answer → IsBytesAnswer name ram Ran bytes answer
+  good_bytes answer fits e is =
+      subst (λ (b : Bool). IsAnsweredBy name b (first_fault bytes ram) (Ran (image_of bytes ram)) answer)
+      (sym (is_short file_limit bytes fits))
+      (subst (λ (f : Option ElfFault). IsAnsweredBy name false f (Ran (image_of bytes ram)) answer) (sym e) is)
 
--- a plan that is refused
-bad_plan : (name : List ℕ) (bounds : Bounds) (followed : PlanValue → Answer) (text : List ℕ) (fault : PlanFault) →
-    length text ≤ plan_limit → plan_of bounds text ≡ Err fault
-    → plan_answer name bounds followed text ≡ refusal 6 (plan_fault_line name fault)
-unfolding plan_answer_by
-bad_plan name bounds followed text fault h e =
-    ap (λ (b : Bool). plan_answer_by name b (plan_of bounds text) followed) (is_short plan_limit text h)
-    ∙ ap (λ (r : Result PlanValue PlanFault). plan_answer_by name false r followed) e
+  -- a refusal by what no image answers is one by any
+  refused_by : (long : Bool) (fault : Option ElfFault) (answer : Answer)
+      → IsAnsweredBy name long fault (λ _. ⊥) answer → IsAnsweredBy name long fault (Ran (image_of bytes ram)) answer
+  refused_by true fault answer is = is
+  refused_by false (Some fault) answer is = is
+  refused_by false None answer is = absurd is
 
--- a plan that is followed
-good_plan : (name : List ℕ) (bounds : Bounds) (followed : PlanValue → Answer) (text : List ℕ) (plan : PlanValue) →
-    length text ≤ plan_limit → plan_of bounds text ≡ Ok plan
-    → plan_answer name bounds followed text ≡ followed plan
-unfolding plan_answer_by
-good_plan name bounds followed text plan h e =
-    ap (λ (b : Bool). plan_answer_by name b (plan_of bounds text) followed) (is_short plan_limit text h)
-    ∙ ap (λ (r : Result PlanValue PlanFault). plan_answer_by name false r followed) e
+  -- so it is of bytes
+  pub bytes_refused : (answer : Answer) → IsBytesAnswer name ram (λ _ _. ⊥) bytes answer
+      → IsBytesAnswer name ram Ran bytes answer
+  bytes_refused answer is =
+      refused_by (nat_lt file_limit (length bytes)) (first_fault bytes ram) answer is
 
--- the same of a command with a plan
-pub long_planned : (task : Task) (name plan : List ℕ) (options : Options) (text bytes : List ℕ) → plan_limit < length
-    text → planned_answer task name plan options text bytes ≡ refusal 6 (too_long_line plan)
-unfolding planned_answer
-long_planned task name plan options text bytes h =
-    long_plan plan (bounds_of task options) (λ (planned : PlanValue). file_answer name options.ram
-    (done task options planned) bytes) text h
+-- ---- plans
 
--- a command with a faulty plan refuses it with the fault's line, whatever its file holds
-pub bad_planned : (task : Task) (name plan : List ℕ) (options : Options) (text bytes : List ℕ) (fault : PlanFault) →
-    length text ≤ plan_limit → plan_of (bounds_of task options) text ≡ Err fault
-    → planned_answer task name plan options text bytes ≡ refusal 6 (plan_fault_line plan fault)
-unfolding planned_answer
-bad_planned task name plan options text bytes fault h e =
-    bad_plan plan (bounds_of task options) (λ (planned : PlanValue). file_answer name options.ram
-    (done task options planned) bytes) text fault h e
+module _ (name : List ℕ) (bounds : Bounds) (Followed : PlanValue → Answer → Type 0) (text : List ℕ) where
+  -- a plan of too many bytes
+  pub long_text : plan_limit < length text → IsTextAnswer name bounds Followed text (refused name why.PlanTooLong)
+  long_text more =
+      subst (λ (b : Bool). IsFollowedBy name b (plan_of bounds text) Followed (refused name why.PlanTooLong))
+      (sym (is_long plan_limit text more)) refl
 
--- under a plan that is followed the command answers to its file
-good_planned : (task : Task) (name plan : List ℕ) (options : Options) (text bytes : List ℕ) (planned : PlanValue) →
-    length text ≤ plan_limit → plan_of (bounds_of task options) text ≡ Ok planned
-    → planned_answer task name plan options text bytes ≡ file_answer name options.ram (done task options planned) bytes
-unfolding planned_answer
-good_planned task name plan options text bytes planned h e =
-    good_plan plan (bounds_of task options) (λ (p : PlanValue). file_answer name options.ram (done task options p)
-    bytes) text planned h e
+  -- a plan that is refused
+  pub bad_text : (fault : PlanFault) → length text ≤ plan_limit → plan_of bounds text ≡ Err fault
+      → IsTextAnswer name bounds Followed text (refused name (why.Plan fault))
+  bad_text fault fits e =
+      let answer : Answer = refused name (why.Plan fault) in
+      subst (λ (b : Bool). IsFollowedBy name b (plan_of bounds text) Followed answer)
+      (sym (is_short plan_limit text fits))
+      (subst (λ (r : Result PlanValue PlanFault). IsFollowedBy name false r Followed answer) (sym e) refl)
 
--- an answer to a file under a plan that is followed is one of the command
-pub followed : (told : Option Contents) (task : Task) (name plan : List ℕ) (options : Options) (text : List ℕ)
-    (planned : PlanValue) (answer : Answer) → length text ≤ plan_limit
-    → plan_of (bounds_of task options) text ≡ Ok planned → IsAnswerTo told name
-    (file_answer name options.ram (done task options planned)) answer → IsPlannedBy told task name plan options
-    text answer
-followed told task name plan options text planned answer h e (bytes, (is, same)) =
-    (bytes, (inr is, same ∙ sym (good_planned task name plan options text bytes planned h e)))
+  -- a plan that is followed
+  good_text : (plan : PlanValue) (answer : Answer) → nat_lt plan_limit (length text) ≡ false
+      → plan_of bounds text ≡ Ok plan → Followed plan answer → IsTextAnswer name bounds Followed text answer
+  good_text plan answer short e is =
+      subst (λ (b : Bool). IsFollowedBy name b (plan_of bounds text) Followed answer) (sym short)
+      (subst (λ (r : Result PlanValue PlanFault). IsFollowedBy name false r Followed answer) (sym e) is)
 
--- ---- the statuses
+  -- a refusal by what is answered under no plan is one by any
+  unfollowed_by : (long : Bool) (read : Result PlanValue PlanFault) (answer : Answer)
+      → IsFollowedBy name long read (λ _ _. ⊥) answer → IsFollowedBy name long read Followed answer
+  unfollowed_by true read answer is = is
+  unfollowed_by false (Err fault) answer is = is
+  unfollowed_by false (Ok plan) answer is = absurd is
 
--- the statuses of an answer to a file are 5 and those of what its image answers
-file_codes : (codes : List ℕ) (name : List ℕ) (long : Bool) (fault : Option ElfFault) (ran : Answer) → IsOneOf codes 5
-    → IsOneOf codes ran.code → IsOneOf codes (file_answer_by name long fault ran).code
-unfolding file_answer_by
-file_codes codes name true fault ran five one = five
-file_codes codes name false (Some fault) ran five one = five
-file_codes codes name false None ran five one = one
+-- what is answered under a plan is answered to its text
+pub by_plan : (told : Option Contents) (name : Option (List ℕ)) (bounds : Bounds)
+    (Followed : PlanValue → Answer → Type 0) (plan : PlanValue) (answer : Answer) → IsPlanIn told name bounds plan
+    → Followed plan answer → IsPlanAnswer told name bounds Followed answer
+by_plan told None bounds Followed plan answer empty is = subst (λ (p : PlanValue). Followed p answer) empty is
+by_plan told (Some name) bounds Followed plan answer (text, (content, (short, e))) is =
+    (text, (content, good_text name bounds Followed text plan answer short e is))
 
--- the statuses of a command whose plan is followed
-abbrev ran_codes : Task → List ℕ
-ran_codes Run = 0 ∷ 1 ∷ 5 ∷ []
-ran_codes Inject = 0 ∷ 5 ∷ 8 ∷ []
-
--- and all that it has
-abbrev all_codes : Task → List ℕ
-all_codes Run = 0 ∷ 1 ∷ 3 ∷ 4 ∷ 5 ∷ 6 ∷ 7 ∷ []
-all_codes Inject = 0 ∷ 3 ∷ 4 ∷ 5 ∷ 6 ∷ 7 ∷ 8 ∷ []
-
--- a run has status 0 where a store halted it, and else 1
-halt_one : (halted : Bool) → IsOneOf (ran_codes Run) (halt_code halted)
-halt_one true = refl
-halt_one false = refl
-
--- an injection has status 8 where there is an alert, and else 0
-alert_one : (alert : Bool) → IsOneOf (ran_codes Inject) (alert_code alert)
-alert_one true = refl
-alert_one false = refl
-
--- so what is done with an image has a status of its command
-done_codes : (task : Task) (options : Options) (planned : PlanValue) (image : Placed) → IsOneOf (ran_codes task)
-    (done task options planned image).code
-unfolding done
-done_codes Run options planned image = halt_one (timed_story (setup_of options planned image) options.cycles).halted
-done_codes Inject options planned image = alert_one (is_some (verdict_of image options planned).first_alert)
-
--- either command may refuse its file
-five : (task : Task) → IsOneOf (ran_codes task) 5
-five Run = refl
-five Inject = refl
-
--- a followed plan isn't refused
-followed_codes : (task : Task) (name : List ℕ) (options : Options) (planned : PlanValue) (bytes : List ℕ) → IsOneOf
-    (ran_codes task) (file_answer name options.ram (done task options planned) bytes).code
-followed_codes task name options planned bytes =
-    let image : Placed = image_of bytes options.ram in
-    file_codes (ran_codes task) name (nat_lt file_limit (length bytes)) (first_fault bytes options.ram)
-    (done task options planned image) (five task)
-    (done_codes task options planned image)
-
--- each status under a followed plan is among all that the command has
-more_codes : (task : Task) (code : ℕ) → IsOneOf (ran_codes task) code → IsOneOf (all_codes task) code
-more_codes Run code one = grind arith
-more_codes Inject code one = grind arith
-
--- the statuses of a run without a plan
-abbrev plain_codes : List ℕ
-plain_codes = 0 ∷ 1 ∷ 3 ∷ 4 ∷ 5 ∷ 7 ∷ []
-
--- a run under the empty plan has one of them
-plain_code : (code : ℕ) → IsOneOf (ran_codes Run) code → IsOneOf plain_codes code
-plain_code code one = grind arith
-
--- an answer under a followed plan never has the status of a refused plan
-not_six : (task : Task) (code : ℕ) → IsOneOf (ran_codes task) code → code ≡ 6 → ⊥
-not_six Run code one six = let no : false ≡ true = subst (IsOneOf (0 ∷ 1 ∷ 5 ∷ [])) six one in cc
-not_six Inject code one six = let no : false ≡ true = subst (IsOneOf (0 ∷ 5 ∷ 8 ∷ [])) six one in cc
-
--- either command may refuse its plan
-six_one : (task : Task) → IsOneOf (all_codes task) 6
-six_one Run = refl
-six_one Inject = refl
-
--- an answer to a plan has status 6, or one of those under the plan that is followed
-plan_codes : (task : Task) (name : List ℕ) (long : Bool) (read : Result PlanValue PlanFault)
-    (followed : PlanValue → Answer) → ((planned : PlanValue) → IsOneOf (ran_codes task) (followed planned).code)
-    → IsOneOf (all_codes task) (plan_answer_by name long read followed).code
-unfolding plan_answer_by
-plan_codes task name true read followed each = six_one task
-plan_codes task name false (Err fault) followed each = six_one task
-plan_codes task name false (Ok planned) followed each = more_codes task (followed planned).code (each planned)
-
--- so each plan and each file are answered with a status of the command
-planned_codes : (task : Task) (name plan : List ℕ) (options : Options) (text bytes : List ℕ) → IsOneOf (all_codes task)
-    (planned_answer task name plan options text bytes).code
-unfolding planned_answer
-planned_codes task name plan options text bytes =
-    plan_codes task plan (nat_lt plan_limit (length text)) (plan_of (bounds_of task options) text)
-    (λ (p : PlanValue). file_answer name options.ram (done task options p) bytes)
-    (λ planned. followed_codes task name options planned bytes)
-
--- an answer of a command with a plan has such a status, whatever the files hold
-codes_by : (told : Option Contents) (task : Task) (name plan : List ℕ) (options : Options) (answer : Answer) →
-    IsPlanned told task name plan options answer → IsOneOf (all_codes task) answer.code
-codes_by told task name plan options answer (text, (content, (bytes, (read, same)))) =
-    subst (λ (a : Answer). IsOneOf (all_codes task) a.code) (sym same)
-    (planned_codes task name plan options text bytes)
-
--- the statuses of a run without a file
-summed_one : (halted : Bool) → IsOneOf (0 ∷ 1 ∷ 4 ∷ 7 ∷ []) (halt_code halted)
-summed_one true = refl
-summed_one false = refl
-
--- the answer to a number has one of those, since its program is made and not read
-summed_codes : (number : ℕ) (options : Options) → IsOneOf (0 ∷ 1 ∷ 4 ∷ 7 ∷ []) (generated_by number options).code
-summed_codes number options =
-    let image : Placed = image_of (generated number) default_ram in
-    summed_one (timed_story (setup_of options empty_plan image) options.cycles).halted
-
--- whatever the words mean, their answer has a status of that command
-pub answer_codes : (told : Option Contents) (command : Option Meaning) (answer : Answer) → IsAnswer told command answer
-    → IsOneOf (codes_of command) answer.code
-answer_codes told None answer is = absurd is
-answer_codes told (Some (Running name None options)) answer (bytes, (content, same)) =
-    subst (λ (a : Answer). IsOneOf plain_codes a.code) (sym same)
-    (plain_code (plain_answer name options bytes).code (followed_codes Run name options empty_plan bytes))
-answer_codes told (Some (Running name (Some plan) options)) answer is = codes_by told Run name plan options answer is
-answer_codes told (Some (Injecting name plan options)) answer is = codes_by told Inject name plan options answer is
-answer_codes told (Some (Twinning first second None options)) answer is = twin_plain_codes told first second options
-    answer is
-answer_codes told (Some (Twinning first second (Some plan) options)) answer is =
-    twin_planned_codes told first second plan options answer is
-answer_codes told (Some (Generating number options)) answer is =
-    subst (λ (a : Answer). IsOneOf (0 ∷ 1 ∷ 4 ∷ 7 ∷ []) a.code) (sym is) (summed_codes number options)
-answer_codes told (Some (Assembling name)) answer (text, (content, same)) =
-    subst (λ (a : Answer). IsOneOf (0 ∷ 3 ∷ 4 ∷ 7 ∷ 12 ∷ []) a.code) (sym same) (asm_codes name text)
-answer_codes told (Some (Disassembling name ram)) answer (bytes, (content, same)) =
-    subst (λ (a : Answer). IsOneOf (0 ∷ 3 ∷ 4 ∷ 5 ∷ 7 ∷ []) a.code) (sym same)
-    (file_codes (0 ∷ 3 ∷ 4 ∷ 5 ∷ 7 ∷ []) name (nat_lt file_limit (length bytes)) (first_fault bytes ram)
-    (listed (image_of bytes ram)) refl refl)
-
--- ---- one answer
-
--- a plan that is refused is refused whatever would be done with it
-refused_alike : (task : Task) (name : List ℕ) (long : Bool) (read : Result PlanValue PlanFault)
-    (one other : PlanValue → Answer) → ((planned : PlanValue) → IsOneOf (ran_codes task) (one planned).code)
-    → (plan_answer_by name long read one).code ≡ 6 → plan_answer_by name long read one ≡ plan_answer_by name long read
-    other
-unfolding plan_answer_by
-refused_alike task name true read one other each six = refl
-refused_alike task name false (Err fault) one other each six = refl
-refused_alike task name false (Ok planned) one other each six = absurd (not_six task (one planned).code (each planned)
-    six)
-
--- so where the plan is refused, the bytes of the file make no difference
-any_bytes : (task : Task) (name plan : List ℕ) (options : Options) (text bytes others : List ℕ) →
-    (planned_answer task name plan options text bytes).code ≡ 6
-    → planned_answer task name plan options text bytes ≡ planned_answer task name plan options text others
-unfolding planned_answer
-any_bytes task name plan options text bytes others six =
-    refused_alike task plan (nat_lt plan_limit (length text)) (plan_of (bounds_of task options) text)
-    (λ (p : PlanValue). file_answer name options.ram (done task options p) bytes)
-    (λ (p : PlanValue). file_answer name options.ram (done task options p) others) (λ planned. followed_codes task name
-    options planned bytes) six
-
--- a name that is told has one content
-one_content : (contents : Contents) (name bytes others : List ℕ) → contents name ≡ Some bytes → contents name ≡ Some
-    others → bytes ≡ others
-one_content contents name bytes others is are = same_Some bytes others (sym is ∙ are)
-
--- two answers to one text of a plan are the same, whether it is refused or the file is read
-one_planned : (contents : Contents) (task : Task) (name plan : List ℕ) (options : Options) (text bytes others : List ℕ)
-    (one other : Answer)
-    → (one.code ≡ 6) ⊎ (contents name ≡ Some bytes) → one ≡ planned_answer task name plan options text bytes
-    → (other.code ≡ 6) ⊎ (contents name ≡ Some others) → other ≡ planned_answer task name plan options text others →
-    one ≡ other
-one_planned contents task name plan options text bytes others one other (inl six) is _ are =
-    is ∙ any_bytes task name plan options text bytes others (sym (ap (λ (a : Answer). a.code) is) ∙ six) ∙ sym are
-one_planned contents task name plan options text bytes others one other (inr _) is (inl six) are =
-    is ∙ sym (any_bytes task name plan options text others bytes (sym (ap (λ (a : Answer). a.code) are) ∙ six)) ∙ sym
-    are
-one_planned contents task name plan options text bytes others one other (inr told) is (inr said) are =
-    is ∙ ap (planned_answer task name plan options text) (one_content contents name bytes others told said) ∙ sym are
-
--- where both names are told, a command with a plan has one answer
-one_by : (contents : Contents) (task : Task) (name plan : List ℕ) (options : Options) (one other : Answer) → IsPlanned
-    (Some contents) task name plan options one → IsPlanned (Some contents) task name plan options other → one ≡ other
-one_by contents task name plan options one other (text, (told, (bytes, (read, is))))
-    (texts, (said, (others, (reads, are)))) =
-    one_planned contents task name plan options text bytes others one other read is reads
-    (are ∙ ap (λ (t : List ℕ). planned_answer task name plan options t others) (one_content contents plan texts text
-    said told))
-
--- where the names are told, there is one answer
-pub one_answer : (contents : Contents) (command : Option Meaning) (one other : Answer) → IsAnswer (Some contents)
-    command one → IsAnswer (Some contents) command other → one ≡ other
-one_answer contents None one other is are = absurd is
-one_answer contents (Some (Running name None options)) one other (bytes, (told, is)) (others, (said, are)) =
-    is ∙ ap (plain_answer name options) (one_content contents name bytes others told said) ∙ sym are
-one_answer contents (Some (Running name (Some plan) options)) one other is are = one_by contents Run name plan options
-    one other is are
-one_answer contents (Some (Injecting name plan options)) one other is are = one_by contents Inject name plan options
-    one other is are
-one_answer contents (Some (Twinning first second plan options)) one other is are =
-    one_twin contents first second plan options one other is are
-one_answer contents (Some (Generating number options)) one other is are = is ∙ sym are
-one_answer contents (Some (Assembling name)) one other (text, (told, is)) (others, (said, are)) =
-    is ∙ ap (asm_answer name) (one_content contents name text others told said) ∙ sym are
-one_answer contents (Some (Disassembling name ram)) one other (bytes, (told, is)) (others, (said, are)) =
-    is ∙ ap (dis_answer name ram) (one_content contents name bytes others told said) ∙ sym are
+-- a refusal by what is answered under no plan is one by any
+pub plan_refused : (told : Option Contents) (name : Option (List ℕ)) (bounds : Bounds)
+    (Followed : PlanValue → Answer → Type 0) (answer : Answer)
+    → IsPlanAnswer told name bounds (λ _ _. ⊥) answer → IsPlanAnswer told name bounds Followed answer
+plan_refused told None bounds Followed answer is = absurd is
+plan_refused told (Some name) bounds Followed answer (text, (content, is)) = (
+  text,
+  (
+    content,
+    unfollowed_by name bounds Followed text (nat_lt plan_limit (length text)) (plan_of bounds text)
+        answer is,
+  ),
+)
 
 -- a fault of a plan that isn't want of memory is that of its text
-pub fault_is : (fault : PlanFault) (wanted : Result PlanValue PlanFault) → (fault ≡ Memory → ⊥) → Fails fault wanted →
-    wanted ≡ Err fault
+pub fault_is : (fault : PlanFault) (wanted : Result PlanValue PlanFault) → (fault ≡ Memory → ⊥) → Fails fault wanted
+    → wanted ≡ Err fault
 fault_is Memory wanted other h = absurd (other refl)
 fault_is NoFlip wanted other h = h
 fault_is (TooMany line) wanted other h = h
 fault_is (Line line kind) wanted other h = h
+
+-- ---- the statuses
+
+module _ (codes : List ℕ) where
+  -- the statuses of an answer to bytes are 5 and those of what the image answers
+  bytes_codes : (name : List ℕ) (long : Bool) (fault : Option ElfFault) (Ran : Answer → Type 0) (answer : Answer)
+      → IsOneOf codes 5 → ((a : Answer) → Ran a → IsOneOf codes a.code) → IsAnsweredBy name long fault Ran answer
+      → IsOneOf codes answer.code
+  bytes_codes name true fault Ran answer five each is = subst (λ (a : Answer). IsOneOf codes a.code) (sym is) five
+  bytes_codes name false (Some fault) Ran answer five each is =
+      subst (λ (a : Answer). IsOneOf codes a.code) (sym is) five
+  bytes_codes name false None Ran answer five each is = each answer is
+
+  -- so it is of a file
+  file_codes : (told : Option Contents) (name : List ℕ) (ram : Ram) (Ran : Placed → Answer → Type 0)
+      (answer : Answer) → IsOneOf codes 5 → ((image : Placed) (a : Answer) → Ran image a → IsOneOf codes a.code)
+      → IsFileAnswer told name ram Ran answer → IsOneOf codes answer.code
+  file_codes told name ram Ran answer five each (bytes, (content, is)) =
+      bytes_codes name (nat_lt file_limit (length bytes)) (first_fault bytes ram) (Ran (image_of bytes ram)) answer
+      five (each (image_of bytes ram)) is
+
+  -- the statuses of an answer to the text of a plan are 6 and those of the answers under it
+  text_codes : (name : List ℕ) (long : Bool) (read : Result PlanValue PlanFault)
+      (Followed : PlanValue → Answer → Type 0) (answer : Answer) → IsOneOf codes 6
+      → ((plan : PlanValue) (a : Answer) → Followed plan a → IsOneOf codes a.code)
+      → IsFollowedBy name long read Followed answer → IsOneOf codes answer.code
+  text_codes name true read Followed answer six each is = subst (λ (a : Answer). IsOneOf codes a.code) (sym is) six
+  text_codes name false (Err fault) Followed answer six each is =
+      subst (λ (a : Answer). IsOneOf codes a.code) (sym is) six
+  text_codes name false (Ok plan) Followed answer six each is = each plan answer is
+
+-- the statuses of a command with a plan, if one is named
+planned_codes : (codes : Option (List ℕ) → List ℕ) (told : Option Contents) (plan : Option (List ℕ)) (bounds : Bounds)
+    (Followed : PlanValue → Answer → Type 0) (answer : Answer)
+    → ((name : List ℕ) → IsOneOf (codes (Some name)) 6)
+    → ((p : PlanValue) (a : Answer) → Followed p a → IsOneOf (codes plan) a.code)
+    → IsPlanAnswer told plan bounds Followed answer → IsOneOf (codes plan) answer.code
+planned_codes codes told None bounds Followed answer six each is = each empty_plan answer is
+planned_codes codes told (Some name) bounds Followed answer six each (text, (content, is)) =
+    text_codes (codes (Some name)) name (nat_lt plan_limit (length text)) (plan_of bounds text) Followed answer
+    (six name) each is
+
+-- a run ends by a halting store or by the budget
+halt_one : (more : List ℕ) (halted : Bool) → IsOneOf (0 ∷ 1 ∷ more) (halt_code halted)
+halt_one more true = refl
+halt_one more false = refl
+
+-- an injection has an alert, or none
+alert_one : (alert : Bool) → IsOneOf (0 ∷ 3 ∷ 4 ∷ 5 ∷ 6 ∷ 7 ∷ 8 ∷ []) (alert_code alert)
+alert_one true = refl
+alert_one false = refl
+
+-- two runs differ, or not
+twin_one : (more : List ℕ) (differ : Bool) → IsOneOf (0 ∷ 3 ∷ 4 ∷ 5 ∷ 7 ∷ 9 ∷ more) (twin_code differ)
+twin_one more true = refl
+twin_one more false = refl
+
+-- one of these statuses where the answer is another's
+same_code : (codes : List ℕ) (answer other : Answer) → answer ≡ other → IsOneOf codes other.code
+    → IsOneOf codes answer.code
+same_code codes answer other is one = subst (λ (a : Answer). IsOneOf codes a.code) (sym is) one
+
+-- whatever the words mean, their answer has a status of that command
+pub command_code : (told : Option Contents) (command : Option Meaning) (answer : Answer) → IsAnswer told command answer
+    → IsOneOf (codes_of command) answer.code
+command_code told None answer is = absurd is
+command_code told (Some (Running name plan options)) answer is =
+    let codes : Option (List ℕ) → List ℕ = λ p. codes_of (Some (Running name p options)) in
+    planned_codes codes told plan (bounds_of 0 options) (IsRunBy told name options) answer (λ _. refl)
+    (λ planned a of_file. file_codes (codes plan) told name options.ram
+    (IsRanBy options planned) a refl
+    (λ image b same. same_code (codes plan) b (ran_by options planned image) same
+    (halt_one (3 ∷ 4 ∷ 5 ∷ 7 ∷ plan_codes plan)
+    (timed_story (setup_of options planned image) options.cycles).halted)) of_file) is
+command_code told (Some (Injecting name plan options)) answer is =
+    let codes : List ℕ = codes_of (Some (Injecting name plan options)) in
+    planned_codes (λ _. codes) told (Some plan) (bounds_of 1 options) (IsInjectBy told name options) answer (λ _. refl)
+    (λ planned a of_file. file_codes codes told name options.ram
+    (IsInjectedBy options planned) a refl
+    (λ image b same. same_code codes b (injected_by options planned image) same
+    (alert_one (is_some (verdict_of image options planned).first_alert))) of_file) is
+command_code told (Some (Twinning first second plan options)) answer is =
+    let codes : Option (List ℕ) → List ℕ = λ p. codes_of (Some (Twinning first second p options)) in
+    let ram : Ram = options.ram in
+    planned_codes codes told plan (bounds_of 0 options) (IsPair told first second options) answer (λ _. refl)
+    (λ planned a of_first. file_codes (codes plan) told first ram (IsSecond told second options planned) a refl
+    (λ image b of_second. file_codes (codes plan) told second ram
+    (IsTwinnedBy options planned image) b refl
+    (λ other d same. same_code (codes plan) d (twinned_by options planned image other) same
+    (twin_one (plan_codes plan) (differs (compared_by options planned image other)))) of_second) of_first) is
+command_code told (Some (Generating number options)) answer is =
+    same_code (0 ∷ 1 ∷ 4 ∷ 7 ∷ []) answer (generated_by number options) is
+    (halt_one (4 ∷ 7 ∷ [])
+    (timed_story (setup_of options empty_plan (image_of (generated number) default_ram)) options.cycles).halted)
+command_code told (Some (Assembling name)) answer (text, (content, same)) =
+    same_code (0 ∷ 3 ∷ 4 ∷ 7 ∷ 12 ∷ []) answer (asm_answer name text) same (asm_codes name text)
+command_code told (Some (Disassembling name ram)) answer is =
+    let codes : List ℕ = 0 ∷ 3 ∷ 4 ∷ 5 ∷ 7 ∷ [] in
+    file_codes codes told name ram (λ image answer. answer ≡ listed image) answer refl
+    (λ image a same. same_code codes a (listed image) same refl) is
+
+-- ---- one answer
+
+-- a name that is told has one content
+one_content : (contents : Contents) (name bytes others : List ℕ) → contents name ≡ Some bytes
+    → contents name ≡ Some others → bytes ≡ others
+one_content contents name bytes others is are = same_Some bytes others (sym is ∙ are)
+
+-- one answer to bytes, where there is one to their image
+one_answered : (name : List ℕ) (long : Bool) (fault : Option ElfFault) (Ran : Answer → Type 0) (one other : Answer)
+    → ((a b : Answer) → Ran a → Ran b → a ≡ b) → IsAnsweredBy name long fault Ran one
+    → IsAnsweredBy name long fault Ran other → one ≡ other
+one_answered name true fault Ran one other each is are = is ∙ sym are
+one_answered name false (Some fault) Ran one other each is are = is ∙ sym are
+one_answered name false None Ran one other each is are = each one other is are
+
+-- one answer to a file, where there is one to each image
+one_of_file : (contents : Contents) (name : List ℕ) (ram : Ram) (Ran : Placed → Answer → Type 0) (one other : Answer)
+    → ((image : Placed) (a b : Answer) → Ran image a → Ran image b → a ≡ b)
+    → IsFileAnswer (Some contents) name ram Ran one → IsFileAnswer (Some contents) name ram Ran other → one ≡ other
+one_of_file contents name ram Ran one other each (bytes, (told, is)) (others, (said, are)) =
+    one_answered name (nat_lt file_limit (length bytes)) (first_fault bytes ram) (Ran (image_of bytes ram)) one other
+    (each (image_of bytes ram)) is
+    (subst (λ (b : List ℕ). IsBytesAnswer name ram Ran b other) (one_content contents name others bytes said told) are)
+
+-- where the image's answer is a value, it is one
+one_ran : (contents : Contents) (name : List ℕ) (ram : Ram) (ran : Placed → Answer) (one other : Answer)
+    → IsFileAnswer (Some contents) name ram (λ image answer. answer ≡ ran image) one
+    → IsFileAnswer (Some contents) name ram (λ image answer. answer ≡ ran image) other → one ≡ other
+one_ran contents name ram ran one other is are =
+    one_of_file contents name ram (λ image answer. answer ≡ ran image) one other (λ image a b x y. x ∙ sym y) is are
+
+-- one answer to the text of a plan, where there is one under each
+one_followed : (name : List ℕ) (long : Bool) (read : Result PlanValue PlanFault)
+    (Followed : PlanValue → Answer → Type 0) (one other : Answer)
+    → ((plan : PlanValue) (a b : Answer) → Followed plan a → Followed plan b → a ≡ b)
+    → IsFollowedBy name long read Followed one → IsFollowedBy name long read Followed other → one ≡ other
+one_followed name true read Followed one other each is are = is ∙ sym are
+one_followed name false (Err fault) Followed one other each is are = is ∙ sym are
+one_followed name false (Ok plan) Followed one other each is are = each plan one other is are
+
+-- one answer to a plan, if one is named, where there is one under each
+one_planned : (contents : Contents) (plan : Option (List ℕ)) (bounds : Bounds)
+    (Followed : PlanValue → Answer → Type 0) (one other : Answer)
+    → ((p : PlanValue) (a b : Answer) → Followed p a → Followed p b → a ≡ b)
+    → IsPlanAnswer (Some contents) plan bounds Followed one
+    → IsPlanAnswer (Some contents) plan bounds Followed other → one ≡ other
+one_planned contents None bounds Followed one other each is are = each empty_plan one other is are
+one_planned contents (Some name) bounds Followed one other each (text, (told, is)) (texts, (said, are)) =
+    one_followed name (nat_lt plan_limit (length text)) (plan_of bounds text) Followed one other each is
+    (subst (λ (t : List ℕ). IsTextAnswer name bounds Followed t other) (one_content contents name texts text said told)
+    are)
+
+-- where the names are told, there is one answer
+pub one_answer : (contents : Contents) (command : Option Meaning) (one other : Answer)
+    → IsAnswer (Some contents) command one → IsAnswer (Some contents) command other → one ≡ other
+one_answer contents None one other is are = absurd is
+one_answer contents (Some (Running name plan options)) one other is are =
+    one_planned contents plan (bounds_of 0 options) (IsRunBy (Some contents) name options) one other
+    (λ planned a b x y. one_ran contents name options.ram (ran_by options planned) a b x y) is are
+one_answer contents (Some (Injecting name plan options)) one other is are =
+    one_planned contents (Some plan) (bounds_of 1 options) (IsInjectBy (Some contents) name options) one other
+    (λ planned a b x y. one_ran contents name options.ram (injected_by options planned) a b x y) is are
+one_answer contents (Some (Twinning first second plan options)) one other is are =
+    one_planned contents plan (bounds_of 0 options) (IsPair (Some contents) first second options) one other
+    (λ planned a b x y. one_of_file contents first options.ram (IsSecond (Some contents) second options planned) a b
+    (λ image d e u v. one_ran contents second options.ram (twinned_by options planned image) d e u v) x y) is are
+one_answer contents (Some (Generating number options)) one other is are = is ∙ sym are
+one_answer contents (Some (Assembling name)) one other (text, (told, is)) (others, (said, are)) =
+    is ∙ ap (asm_answer name) (one_content contents name text others told said) ∙ sym are
+one_answer contents (Some (Disassembling name ram)) one other is are =
+    one_ran contents name ram listed one other is are

@@ -8,33 +8,33 @@ use Rattle.ibx_asm.specs.declared.fault.AsmFault.{AsmFault}
 use Rattle.ibx_asm.specs.declared.fault.AsmFault.TheVariants.{Memory, Line}
 use Rattle.ibx_asm.specs.Denote.{denoted, Assembles}
 use Rattle.ibx_wrap.specs.Wrapped.{wrapped}
-use Rattle.ibx_top.specs.ErrLines.{text_too_long_line, asm_fault_line}
-use Rattle.ibx_top.specs.Answers.{Answer, refusal, written_answer, text_limit, asm_answer_by, asm_answer, IsOneOf}
+use Rattle.ibx_top.specs.declared.outcome.Refusal.TheVariants as why
+use Rattle.ibx_top.specs.Answers.{refused, written_answer, plan_limit, asm_answer_by, asm_answer, IsOneOf}
 
--- a text of more bytes than the limit is told to be too long
-is_long : (text : List ℕ) → text_limit < length text → nat_lt text_limit (length text) ≡ true
+-- more bytes than the limit are told to be too long
+is_long : (text : List ℕ) → plan_limit < length text → nat_lt plan_limit (length text) ≡ true
 is_long text h = grind (arith, nat_tests)
 
--- a text within the limit is not
-is_short : (text : List ℕ) → length text ≤ text_limit → nat_lt text_limit (length text) ≡ false
+-- as many as the limit or fewer are not
+is_short : (text : List ℕ) → length text ≤ plan_limit → nat_lt plan_limit (length text) ≡ false
 is_short text h = grind (arith, nat_tests)
 
 -- a text of too many bytes
-pub long_text : (name text : List ℕ) → text_limit < length text → asm_answer name text ≡ refusal 12
-    (text_too_long_line name)
+pub long_text : (name text : List ℕ) → plan_limit < length text → asm_answer name text ≡ refused name
+    why.TextTooLong
 unfolding asm_answer_by
 long_text name text h = ap (λ (b : Bool). asm_answer_by name b (denoted text)) (is_long text h)
 
 -- a text with a refused line
-pub bad_text : (name text : List ℕ) (fault : AsmFault) → length text ≤ text_limit → denoted text ≡ Err fault
-    → asm_answer name text ≡ refusal 12 (asm_fault_line name fault)
+pub bad_text : (name text : List ℕ) (fault : AsmFault) → length text ≤ plan_limit → denoted text ≡ Err fault
+    → asm_answer name text ≡ refused name (why.Text fault)
 unfolding asm_answer_by
 bad_text name text fault h e =
     ap (λ (b : Bool). asm_answer_by name b (denoted text)) (is_short text h)
     ∙ ap (asm_answer_by name false) e
 
 -- a text that stands for code
-pub good_text : (name text code : List ℕ) → length text ≤ text_limit → denoted text ≡ Ok code
+pub good_text : (name text code : List ℕ) → length text ≤ plan_limit → denoted text ≡ Ok code
     → asm_answer name text ≡ written_answer (wrapped code)
 unfolding asm_answer_by
 good_text name text code h e =
@@ -57,4 +57,4 @@ codes_by name false (Ok code) = refl
 
 -- so `asm` answers each text with one of these
 pub asm_codes : (name text : List ℕ) → IsOneOf (0 ∷ 3 ∷ 4 ∷ 7 ∷ 12 ∷ []) (asm_answer name text).code
-asm_codes name text = codes_by name (nat_lt text_limit (length text)) (denoted text)
+asm_codes name text = codes_by name (nat_lt plan_limit (length text)) (denoted text)

@@ -11,3 +11,6 @@ pub mod PlanWords
 pub mod TwinTimes
 pub mod Twins
 pub mod TwinRuns
+pub mod RunAnswers
+pub mod Chain
+pub mod Longer

@@ -16,7 +16,7 @@ pub no_fields : (s : State) → 0 ≡ sum_to s 0
 no_fields s = refl
 
 -- one field more
-pub field_more : (s : State) (n : ℕ) → n < 87 → (sum_to s n + slice_index (fields s) n) % 2 ^ 64 ≡ sum_to s (n + 1)
+pub field_more : (s : State) (n : ℕ) → n < 89 → (sum_to s n + slice_index (fields s) n) % 2 ^ 64 ≡ sum_to s (n + 1)
 unfolding fields
 field_more s n within =
     let more : sum (take (n + 1) (fields s)) ≡ sum (take n (fields s)) + slice_index (fields s) n = sum_by_more
@@ -26,6 +26,6 @@ field_more s n within =
     split ∙ ap (λ (x : ℕ). x % 2 ^ 64) (sym more)
 
 -- all fields
-pub all_fields : (s : State) → sum_to s 87 ≡ seal_of s
+pub all_fields : (s : State) → sum_to s 89 ≡ seal_of s
 unfolding fields seal_of
 all_fields s = refl

@@ -171,10 +171,10 @@ ran next given count run = rw (next, given, count) run
 
 -- so what is printed of such a run is the text of its story
 pub told_is : (number : ℕ) (s : Setup) (budget : ℕ) (w left : Whole State) {halted : Bool} {sum cycles events : ℕ} →
-    IsHistory s w → budget < 2 ^ 62 → w.place.cycle ≡ 0
+    IsHistory s w → w.place.cycle ≡ 0
     → HasSummed (drive_from budget w) halted sum events left → cycles ≡ left.place.cycle
     → sum_lines number sum ++ end_line_of halted cycles events ≡ sum_text number budget (timed_story s budget)
-told_is number s budget w left {halted} {sum} {cycles} {events} law low new summed at =
+told_is number s budget w left {halted} {sum} {cycles} {events} law new summed at =
     let spent : cycles ≡ (drive_from budget w).left.place.cycle = at ∙ ap (λ (v : Whole State). v.place.cycle)
     summed.leaves in
-    rw (summed.sums, summed.halts, spent, summed.counts) (sum_text_is number s budget w law low new)
+    rw (summed.sums, summed.halts, spent, summed.counts) (sum_text_is number s budget w law new)

@@ -11,11 +11,11 @@ use Rattle.ibx_trace.specs.Lines.{line_of, end_line_of}
 use Rattle.ibx_story.specs.Stories.{cycles_passed, event_cycle, halts}
 use Rattle.ibx_time.specs.History.{halts as halts_in_time, history, up_to_halt}
 use Rattle.ibx_time.specs.Settings.{Setup}
-use Rattle.ibx_time_machine.specs.System.{with_event}
+use Rattle.ibx_time.specs.Runs.{with_event}
 use Rattle.ibx_time_system.specs.Laws.{IsHistory, events_of}
 use Rattle.ibx_time_system.proofs.History.{two_core_laws}
 use Rattle.ibx_time_system.proofs.Reset.{starts}
-use Rattle.ibx_time_machine.specs.Whole.{IsPlaced}
+use Rattle.ibx_time.specs.Runs.{IsPlaced}
 use Rattle.ibx_elf.specs.Image.{Placed}
 use Rattle.ibx_plan.specs.Plan.{PlanValue}
 use Rattle.ibx_command.specs.declared.options.Options.{Options}
@@ -172,15 +172,15 @@ end_alike false budget d halted ends =
     (ends.goes_on halted ∙ (let count : 0 + budget ≡ budget = omega arith in count))
 
 -- from cycle 0 on, the text of a run that is a history is that of its story
-pub text_is : (s : Setup) (budget : ℕ) (w : Whole State) → IsHistory s w → budget < 2 ^ 62 → w.place.cycle ≡ 0
+pub text_is : (s : Setup) (budget : ℕ) (w : Whole State) → IsHistory s w → w.place.cycle ≡ 0
     → drive_text (drive_from budget w) ≡ story_text budget (timed_story s budget)
 unfolding drive_text story_text last_line timed_story
-text_is s budget w law low new =
+text_is s budget w law new =
     let d : Drive = drive_from budget w in
     let any : Bool = list_any halts (history s budget) in
     let events : d.events ≡ up_to_halt (history s budget) = drive_events budget w ∙ ap up_to_halt
-    (law.events budget low) in
-    let halted : d.halted ≡ any = drive_halted budget w ∙ ap (list_any halts) (law.events budget low) in
+    (law.events budget) in
+    let halted : d.halted ≡ any = drive_halted budget w ∙ ap (list_any halts) (law.events budget) in
     let ends : Ends 0 budget d = start new (drive_ends budget w) in
     ap (λ (t : List ℕ). flat_map line_of d.events ++ t) (end_alike any budget d halted ends)
     ∙ ap (λ (es : List Event). flat_map line_of es ++ end_line_of any (if any then cycles_passed 0 es else budget)
@@ -190,28 +190,28 @@ text_is s budget w law low new =
     start {a} {n} {d} e ends = subst (λ (c : ℕ). Ends c n d) e ends
 
 -- so is what is printed of its sum
-pub sum_text_is : (number : ℕ) (s : Setup) (budget : ℕ) (w : Whole State) → IsHistory s w → budget < 2 ^ 62 →
+pub sum_text_is : (number : ℕ) (s : Setup) (budget : ℕ) (w : Whole State) → IsHistory s w →
     w.place.cycle ≡ 0
     → sum_lines number (written_sum (drive_from budget w).events) ++ end_line_of (drive_from budget w).halted
     (drive_from budget w).left.place.cycle (length (drive_from budget w).events)
     ≡ sum_text number budget (timed_story s budget)
 unfolding sum_text last_line timed_story
-sum_text_is number s budget w law low new =
+sum_text_is number s budget w law new =
     let d : Drive = drive_from budget w in
     let any : Bool = list_any halts (history s budget) in
     let events : d.events ≡ up_to_halt (history s budget) = drive_events budget w ∙ ap up_to_halt
-    (law.events budget low) in
-    let halted : d.halted ≡ any = drive_halted budget w ∙ ap (list_any halts) (law.events budget low) in
+    (law.events budget) in
+    let halted : d.halted ≡ any = drive_halted budget w ∙ ap (list_any halts) (law.events budget) in
     let ends : Ends 0 budget d = subst (λ (c : ℕ). Ends c budget d) new (drive_ends budget w) in
     ap (λ (t : List ℕ). sum_lines number (written_sum d.events) ++ t) (end_alike any budget d halted ends)
     ∙ ap (λ (es : List Event). sum_lines number (written_sum es) ++ end_line_of any (if any then cycles_passed 0 es
     else budget) (length es)) events
 
 -- and it ends as its story does
-pub halted_is : (s : Setup) (budget : ℕ) (w : Whole State) → IsHistory s w → budget < 2 ^ 62
+pub halted_is : (s : Setup) (budget : ℕ) (w : Whole State) → IsHistory s w
     → (drive_from budget w).halted ≡ (timed_story s budget).halted
 unfolding timed_story
-halted_is s budget w law low = drive_halted budget w ∙ ap (list_any halts) (law.events budget low)
+halted_is s budget w law = drive_halted budget w ∙ ap (list_any halts) (law.events budget)
 
 -- ---- the system as it is opened
 

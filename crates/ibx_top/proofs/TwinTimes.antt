@@ -21,17 +21,17 @@ use Rattle.ibx_top.specs.Twins.{AgreeAsFar, TwinsAgreeInTime, compared}
 use Rattle.ibx_top.proofs.TimedStories.{drive_events}
 
 -- the events of a run that is a history are its story's
-events_are : (s : Setup) (w : Whole State) (cycles : ℕ) → IsHistory s w → cycles < 2 ^ 62 →
+events_are : (s : Setup) (w : Whole State) (cycles : ℕ) → IsHistory s w →
     (drive_from cycles w).events ≡ (timed_story s cycles).events
 unfolding timed_story
-events_are s w cycles law low = drive_events cycles w ∙ ap up_to_halt (law.events cycles low)
+events_are s w cycles law = drive_events cycles w ∙ ap up_to_halt (law.events cycles)
 
 -- so the comparison of two such runs is that of their stories
-pub compares_stories : (s t : Setup) (a b : Whole State) (cycles : ℕ) → IsHistory s a → IsHistory t b → cycles < 2 ^ 62
+pub compares_stories : (s t : Setup) (a b : Whole State) (cycles : ℕ) → IsHistory s a → IsHistory t b
     → twin_of cycles a b ≡ compared cycles s t
-compares_stories s t a b cycles of_a of_b low =
+compares_stories s t a b cycles of_a of_b =
     ap₂ (λ (xs ys : List Event). first_difference 0 (map view_of xs) (map view_of ys))
-    (events_are s a cycles of_a low) (events_are t b cycles of_b low)
+    (events_are s a cycles of_a) (events_are t b cycles of_b)
 
 -- two lists of events, whose first cycles are equal where their first views are
 module _ (xs ys : List Event)

@@ -1,6 +1,6 @@
 -- What the program answers to the bytes of its files, and the words of its contract (the statuses are our own rule).
-use Rattle.std.specs.Prelude.{⊤, ◌≡◌, ℕ, ◌+◌, ◌/◌, Bool, true, false, ◌==◌, nat_lt, List, [], ◌∷◌, length, Option}
-use Rattle.std.specs.Prelude.{Some, None, is_some, Result, Ok, Err, if◌then◌else◌, IsSome, IsTrue, ◌⊎◌}
+use Rattle.std.specs.Prelude.{⊤, ◌≡◌, ℕ, ◌/◌, Bool, true, false, ◌==◌, nat_lt, List, [], ◌∷◌, ◌++◌, length, Option}
+use Rattle.std.specs.Prelude.{Some, None, is_some, Result, Ok, Err, if◌then◌else◌, IsSome, IsTrue, ◌⊎◌, ◌+◌}
 use Rattle.std.specs.List.{list_any}
 use Rattle.ibx_base.specs.Counts.{Rose}
 use Rattle.ibx_base.specs.Files.{Contents, IsContent}
@@ -22,8 +22,10 @@ use Rattle.ibx_compare.specs.declared.flipped.Verdict.{Verdict}
 use Rattle.ibx_lockstep.specs.Delays.{cycles_of}
 use Rattle.ibx_compare.specs.Verdicts.{IsNoticed}
 use Rattle.ibx_time.specs.Settings.{Setup}
-use Rattle.ibx_top.specs.declared.task.Task.{Task}
-use Rattle.ibx_top.specs.declared.task.Task.TheVariants.{Run, Inject}
+use Rattle.ibx_top.specs.declared.outcome.Finish.{Finish}
+use Rattle.ibx_top.specs.declared.outcome.Finish.TheVariants as finish
+use Rattle.ibx_top.specs.declared.outcome.Refusal.{Refusal}
+use Rattle.ibx_top.specs.declared.outcome.Refusal.TheVariants as why
 use Rattle.ibx_top.specs.TimedStories.{TimedStory, timed_story}
 use Rattle.ibx_top.specs.Texts.{story_text}
 use Rattle.ibx_compare.specs.Drives.{drive_from}
@@ -45,52 +47,111 @@ pub record Answer : Type 0 where
   pub line : List ℕ
   pub seal : ℕ
 
+-- ---- the statuses
+
+-- those of a command that was done, whose text was written
+abbrev pub run_codes : List ℕ
+run_codes = 0 ∷ 1 ∷ 8 ∷ 9 ∷ []
+
+-- those of a file, a plan or a text that is refused
+abbrev pub refused_codes : List ℕ
+refused_codes = 5 ∷ 6 ∷ 12 ∷ []
+
+-- those of an answer to the bytes of the files
+abbrev pub answer_codes : List ℕ
+answer_codes = run_codes ++ refused_codes
+
+-- those at which nothing is written to the output
+abbrev pub silent_codes : List ℕ
+silent_codes = 2 ∷ 3 ∷ 7 ∷ refused_codes
+
+-- those without a seal
+abbrev pub unsealed_codes : List ℕ
+unsealed_codes = 4 ∷ 8 ∷ silent_codes
+
+-- that of a plan that is refused, where one is named
+abbrev pub plan_codes : Option (List ℕ) → List ℕ
+plan_codes None = []
+plan_codes (Some plan) = 6 ∷ []
+
+-- the statuses that a command has
+abbrev pub codes_of : Option Meaning → List ℕ
+codes_of None = 2 ∷ []
+codes_of (Some (Running name plan options)) = 0 ∷ 1 ∷ 3 ∷ 4 ∷ 5 ∷ 7 ∷ plan_codes plan
+codes_of (Some (Injecting name plan options)) = 0 ∷ 3 ∷ 4 ∷ 5 ∷ 6 ∷ 7 ∷ 8 ∷ []
+codes_of (Some (Twinning first second plan options)) = 0 ∷ 3 ∷ 4 ∷ 5 ∷ 7 ∷ 9 ∷ plan_codes plan
+codes_of (Some (Generating number options)) = 0 ∷ 1 ∷ 4 ∷ 7 ∷ []
+codes_of (Some (Assembling name)) = 0 ∷ 3 ∷ 4 ∷ 7 ∷ 12 ∷ []
+codes_of (Some (Disassembling name ram)) = 0 ∷ 3 ∷ 4 ∷ 5 ∷ 7 ∷ []
+
+-- the status of a run, by whether a halting store ended it
+abbrev pub halt_code : Bool → ℕ
+halt_code halted = if halted then 0 else 1
+
+-- the status of an injection, by whether there is an alert
+abbrev pub alert_code : Bool → ℕ
+alert_code alert = if alert then 8 else 0
+
+-- the status of what a command came to
+abbrev pub finish_code : Finish → ℕ
+finish_code (finish.Ran halted seal) = halt_code halted
+finish_code (finish.Injected alert) = alert_code alert
+finish_code (finish.Compared differ seal) = twin_code differ
+finish_code finish.Written = 0
+
+-- its seal, which a run and a comparison have
+abbrev pub finish_seal : Finish → ℕ
+finish_seal (finish.Ran halted seal) = seal
+finish_seal (finish.Injected alert) = 0
+finish_seal (finish.Compared differ seal) = seal
+finish_seal finish.Written = 0
+
+-- the status of a refusal
+abbrev pub refusal_code : Refusal → ℕ
+refusal_code why.FileTooLong = 5
+refusal_code (why.File fault) = 5
+refusal_code why.PlanTooLong = 6
+refusal_code (why.Plan fault) = 6
+refusal_code why.TextTooLong = 12
+refusal_code (why.Text fault) = 12
+
+-- its line on the error output, with the name of what is refused
+unfoldable pub refusal_line : List ℕ → Refusal → List ℕ
+refusal_line name why.FileTooLong = too_long_line name
+refusal_line name (why.File fault) = fault_line name fault
+refusal_line name why.PlanTooLong = too_long_line name
+refusal_line name (why.Plan fault) = plan_fault_line name fault
+refusal_line name why.TextTooLong = text_too_long_line name
+refusal_line name (why.Text fault) = asm_fault_line name fault
+
 -- ---- what is read
 
--- the answer to a file that isn't run, and to a plan that isn't followed
-abbrev pub refusal : ℕ → List ℕ → Answer
-refusal code line = record { code = code; text = []; line = line; seal = 0 }
+-- the answer to a file, a plan or a text that is refused
+abbrev pub refused : List ℕ → Refusal → Answer
+refused name refusal = record { code = refusal_code refusal; text = []; line = refusal_line name refusal; seal = 0 }
 
 -- the most bytes that a file may have, 32 MiB
 abbrev pub file_limit : ℕ
 file_limit = 33554432
 
--- the most bytes that a plan may have, 4 MiB
+-- the most bytes that a plan or a text may have, 4 MiB
 abbrev pub plan_limit : ℕ
 plan_limit = 4194304
 
--- the answer to a file of this name: whether its bytes are too long, then their first fault, and else what its image
--- answers
-unfoldable pub file_answer_by : List ℕ → Bool → Option ElfFault → Answer → Answer
-file_answer_by name true fault ran = refusal 5 (too_long_line name)
-file_answer_by name false (Some fault) ran = refusal 5 (fault_line name fault)
-file_answer_by name false None ran = ran
-
--- the same to its bytes, with its faults and its image in this RAM
-abbrev pub file_answer : List ℕ → Ram → (Placed → Answer) → List ℕ → Answer
-file_answer name ram ran bytes =
-    file_answer_by name (nat_lt file_limit (length bytes)) (first_fault bytes ram) (ran (image_of bytes ram))
-
--- the answer to a plan of this name: whether its text is too long, then its first fault, and else what the plan answers
-unfoldable pub plan_answer_by : List ℕ → Bool → Result PlanValue PlanFault → (PlanValue → Answer) → Answer
-plan_answer_by name true read followed = refusal 6 (too_long_line name)
-plan_answer_by name false (Err fault) followed = refusal 6 (plan_fault_line name fault)
-plan_answer_by name false (Ok plan) followed = followed plan
-
--- the same to its text, which is read within these bounds
-abbrev pub plan_answer : List ℕ → Bounds → (PlanValue → Answer) → List ℕ → Answer
-plan_answer name bounds followed text =
-    plan_answer_by name (nat_lt plan_limit (length text)) (plan_of bounds text) followed
+-- what a plan with so many flips is read within: the words of RAM, the delay, the flips, and the budget of cycles
+abbrev pub bounds_of : ℕ → Options → Bounds
+bounds_of flips options = record {
+  ram_words = options.ram.size / 4;
+  delay = cycles_of options.delay;
+  flips = flips;
+  cycles = options.cycles;
+}
 
 -- ---- `run`
 
 -- the run of an image, with the multiplier of the options and a plan
 abbrev pub setup_of : Options → PlanValue → Placed → Setup
 setup_of options plan image = record { image = image; mul = options.mul; plan = plan }
-
--- the status of a run, by whether a halting store ended it
-abbrev pub halt_code : Bool → ℕ
-halt_code halted = if halted then 0 else 1
 
 -- the answer to a file that is run: its story's text, how it ended, and the seal
 abbrev pub story_answer : ℕ → TimedStory → ℕ → Answer
@@ -125,10 +186,6 @@ generated_by number options = summed_by number options (image_of (generated numb
 
 -- ---- `inject`
 
--- the status of an injection, by whether there is an alert
-abbrev pub alert_code : Bool → ℕ
-alert_code alert = if alert then 8 else 0
-
 -- the answer to a file that is run with and without a flip
 abbrev pub verdict_answer : Verdict → Answer
 verdict_answer verdict =
@@ -137,37 +194,6 @@ verdict_answer verdict =
 -- the answer to an image that is run with and without the flip of a plan
 abbrev pub injected_by : Options → PlanValue → Placed → Answer
 injected_by options planned image = verdict_answer (verdict_of image options planned)
-
--- ---- both
-
--- the answer of a command to an image and a plan
-unfoldable pub done : Task → Options → PlanValue → Placed → Answer
-done Run = ran_by
-done Inject = injected_by
-
--- the flips that a command's plan has: one for an injection, in a cycle below the budget
-abbrev pub flips_of : Task → ℕ
-flips_of Run = 0
-flips_of Inject = 1
-
--- what a plan is read within: the words of RAM, the delay, the flips of its command, and the budget of cycles
-abbrev pub bounds_of : Task → Options → Bounds
-bounds_of task options = record {
-  ram_words = options.ram.size / 4;
-  delay = cycles_of options.delay;
-  flips = flips_of task;
-  cycles = options.cycles;
-}
-
--- the answer of a command to the text of its plan and the bytes of its file: that to the plan comes first
-unfoldable pub planned_answer : Task → List ℕ → List ℕ → Options → List ℕ → List ℕ → Answer
-planned_answer task name plan options text bytes =
-    plan_answer plan (bounds_of task options)
-    (λ planned. file_answer name options.ram (done task options planned) bytes) text
-
--- the answer of `run` without a plan to the bytes of its file
-abbrev pub plain_answer : List ℕ → Options → List ℕ → Answer
-plain_answer name options = file_answer name options.ram (done Run options empty_plan)
 
 -- ---- `twin`
 
@@ -191,57 +217,28 @@ twinned_by options plan a b =
 abbrev pub written_answer : List ℕ → Answer
 written_answer text = record { code = 0; text = text; line = []; seal = 0 }
 
--- the most bytes that a text may have, 4 MiB
-abbrev pub text_limit : ℕ
-text_limit = 4194304
-
 -- the answer to a text of this name: whether it is too long, then its first refused line, and else the file around its
 -- code
 unfoldable pub asm_answer_by : List ℕ → Bool → Result (List ℕ) AsmFault → Answer
-asm_answer_by name true code = refusal 12 (text_too_long_line name)
-asm_answer_by name false (Err fault) = refusal 12 (asm_fault_line name fault)
+asm_answer_by name true code = refused name why.TextTooLong
+asm_answer_by name false (Err fault) = refused name (why.Text fault)
 asm_answer_by name false (Ok code) = written_answer (wrapped code)
 
 -- the same to its bytes, with the code that they stand for
 abbrev pub asm_answer : List ℕ → List ℕ → Answer
-asm_answer name text = asm_answer_by name (nat_lt text_limit (length text)) (denoted text)
+asm_answer name text = asm_answer_by name (nat_lt plan_limit (length text)) (denoted text)
 
 -- the answer to a file whose code is printed
 abbrev pub listed : Placed → Answer
 listed image = written_answer (listing_of image)
 
--- the answer of `dis`: the listing of its image, or a refusal as for a file that is run
-abbrev pub dis_answer : List ℕ → Ram → List ℕ → Answer
-dis_answer name ram bytes = file_answer name ram listed bytes
-
 -- ---- the contract's words
-
--- an answer is that to the bytes of this file
-abbrev pub IsAnswerTo : Option Contents → List ℕ → (List ℕ → Answer) → Answer → Type 0
-IsAnswerTo told name answer_to answer = (bytes : List ℕ) × (IsContent told name bytes × (answer ≡ answer_to bytes))
-
--- an answer is that of a command to this text of its plan and the bytes of its file; where the plan is refused, which
--- is status 6, the file isn't read, and any bytes do
-abbrev pub IsPlannedBy : Option Contents → Task → List ℕ → List ℕ → Options → List ℕ → Answer → Type 0
-IsPlannedBy told task name plan options text answer =
-    (bytes : List ℕ) × (((answer.code ≡ 6) ⊎ IsContent told name bytes)
-    × (answer ≡ planned_answer task name plan options text bytes))
-
--- the same, and the text is that of its plan
-abbrev pub IsPlanned : Option Contents → Task → List ℕ → List ℕ → Options → Answer → Type 0
-IsPlanned told task name plan options answer =
-    (text : List ℕ) × (IsContent told plan text × IsPlannedBy told task name plan options text answer)
-
--- an answer of `run`, by the name of its plan, if there is one
-abbrev pub IsRun : Option Contents → List ℕ → Option (List ℕ) → Options → Answer → Type 0
-IsRun told name None options answer = IsAnswerTo told name (plain_answer name options) answer
-IsRun told name (Some plan) options answer = IsPlanned told Run name plan options answer
 
 -- an answer to a file of this name: whether its bytes are too long, then their first fault, and else it is one to its
 -- image
 abbrev pub IsAnsweredBy : List ℕ → Bool → Option ElfFault → (Answer → Type 0) → Answer → Type 0
-IsAnsweredBy name true fault Ran answer = answer ≡ refusal 5 (too_long_line name)
-IsAnsweredBy name false (Some fault) Ran answer = answer ≡ refusal 5 (fault_line name fault)
+IsAnsweredBy name true fault Ran answer = answer ≡ refused name why.FileTooLong
+IsAnsweredBy name false (Some fault) Ran answer = answer ≡ refused name (why.File fault)
 IsAnsweredBy name false None Ran answer = Ran answer
 
 -- the same to bytes: an answer to their image may depend on more files, which are read where the bytes are no fault
@@ -257,8 +254,8 @@ IsFileAnswer told name ram Ran answer = (bytes : List ℕ) × (IsContent told na
 -- an answer to a plan of this name: whether its text is too long, then its first fault, and else it is one under the
 -- plan
 abbrev pub IsFollowedBy : List ℕ → Bool → Result PlanValue PlanFault → (PlanValue → Answer → Type 0) → Answer → Type 0
-IsFollowedBy name true read Followed answer = answer ≡ refusal 6 (too_long_line name)
-IsFollowedBy name false (Err fault) Followed answer = answer ≡ refusal 6 (plan_fault_line name fault)
+IsFollowedBy name true read Followed answer = answer ≡ refused name why.PlanTooLong
+IsFollowedBy name false (Err fault) Followed answer = answer ≡ refused name (why.Plan fault)
 IsFollowedBy name false (Ok plan) Followed answer = Followed plan answer
 
 -- the same to a text
@@ -266,15 +263,43 @@ abbrev pub IsTextAnswer : List ℕ → Bounds → (PlanValue → Answer → Type
 IsTextAnswer name bounds Followed text =
     IsFollowedBy name (nat_lt plan_limit (length text)) (plan_of bounds text) Followed
 
--- the same, and the text is that of this plan
-abbrev pub IsPlanAnswer : Option Contents → List ℕ → Bounds → (PlanValue → Answer → Type 0) → Answer → Type 0
-IsPlanAnswer told name bounds Followed answer =
+-- the same, and the text is that of this plan; where none is named, the empty plan is followed
+abbrev pub IsPlanAnswer : Option Contents → Option (List ℕ) → Bounds → (PlanValue → Answer → Type 0) → Answer → Type 0
+IsPlanAnswer told None bounds Followed answer = Followed empty_plan answer
+IsPlanAnswer told (Some name) bounds Followed answer =
     (text : List ℕ) × (IsContent told name text × IsTextAnswer name bounds Followed text answer)
+
+-- an answer to an image that is run by a plan
+abbrev pub IsRanBy : Options → PlanValue → Placed → Answer → Type 0
+IsRanBy options plan image answer = answer ≡ ran_by options plan image
+
+-- an answer to a file that is run by a plan
+abbrev pub IsRunBy : Option Contents → List ℕ → Options → PlanValue → Answer → Type 0
+IsRunBy told name options plan = IsFileAnswer told name options.ram (IsRanBy options plan)
+
+-- an answer of `run`, by the name of its plan, if there is one; a plan that is refused comes before the file
+abbrev pub IsRun : Option Contents → List ℕ → Option (List ℕ) → Options → Answer → Type 0
+IsRun told name plan options = IsPlanAnswer told plan (bounds_of 0 options) (IsRunBy told name options)
+
+-- an answer to an image that is run with and without the flip of a plan
+abbrev pub IsInjectedBy : Options → PlanValue → Placed → Answer → Type 0
+IsInjectedBy options plan image answer = answer ≡ injected_by options plan image
+
+-- an answer to such a file
+abbrev pub IsInjectBy : Option Contents → List ℕ → Options → PlanValue → Answer → Type 0
+IsInjectBy told name options plan = IsFileAnswer told name options.ram (IsInjectedBy options plan)
+
+-- an answer of `inject`, whose plan has a flip
+abbrev pub IsInject : Option Contents → List ℕ → List ℕ → Options → Answer → Type 0
+IsInject told name plan options = IsPlanAnswer told (Some plan) (bounds_of 1 options) (IsInjectBy told name options)
+
+-- an answer to two images that are compared
+abbrev pub IsTwinnedBy : Options → PlanValue → Placed → Placed → Answer → Type 0
+IsTwinnedBy options plan a b answer = answer ≡ twinned_by options plan a b
 
 -- an answer to a second file, to the image of the first one
 abbrev pub IsSecond : Option Contents → List ℕ → Options → PlanValue → Placed → Answer → Type 0
-IsSecond told second options plan a = IsFileAnswer told second options.ram (λ b answer. answer ≡ twinned_by options
-    plan a b)
+IsSecond told second options plan a = IsFileAnswer told second options.ram (IsTwinnedBy options plan a)
 
 -- an answer to two files: that to the first comes first, and where it is refused the second isn't read
 abbrev pub IsPair : Option Contents → List ℕ → List ℕ → Options → PlanValue → Answer → Type 0
@@ -282,46 +307,41 @@ IsPair told first second options plan = IsFileAnswer told first options.ram (IsS
 
 -- an answer of `twin`, by the name of its plan, if there is one; a plan that is refused comes before both files
 abbrev pub IsTwin : Option Contents → List ℕ → List ℕ → Option (List ℕ) → Options → Answer → Type 0
-IsTwin told first second None options answer = IsPair told first second options empty_plan answer
-IsTwin told first second (Some plan) options answer =
-    IsPlanAnswer told plan (bounds_of Run options) (IsPair told first second options) answer
+IsTwin told first second plan options =
+    IsPlanAnswer told plan (bounds_of 0 options) (IsPair told first second options)
+
+-- an answer of `asm`
+abbrev pub IsAssembled : Option Contents → List ℕ → Answer → Type 0
+IsAssembled told name answer = (text : List ℕ) × (IsContent told name text × (answer ≡ asm_answer name text))
+
+-- an answer of `dis`
+abbrev pub IsListed : Option Contents → List ℕ → Ram → Answer → Type 0
+IsListed told name ram = IsFileAnswer told name ram (λ image answer. answer ≡ listed image)
 
 -- an answer is that to what the words mean and to the bytes of the files that they name
 abbrev pub IsAnswer : Option Contents → Option Meaning → Answer → Type 0
 IsAnswer told None answer = ⊥
 IsAnswer told (Some (Running name plan options)) answer = IsRun told name plan options answer
-IsAnswer told (Some (Injecting name plan options)) answer = IsPlanned told Inject name plan options answer
+IsAnswer told (Some (Injecting name plan options)) answer = IsInject told name plan options answer
 IsAnswer told (Some (Twinning first second plan options)) answer = IsTwin told first second plan options answer
 IsAnswer told (Some (Generating number options)) answer = answer ≡ generated_by number options
-IsAnswer told (Some (Assembling name)) answer = IsAnswerTo told name (asm_answer name) answer
-IsAnswer told (Some (Disassembling name ram)) answer = IsAnswerTo told name (dis_answer name ram) answer
+IsAnswer told (Some (Assembling name)) answer = IsAssembled told name answer
+IsAnswer told (Some (Disassembling name ram)) answer = IsListed told name ram answer
 
--- the plan that is named, if there is one, and the file
-abbrev pub with_plan : Option (List ℕ) → List (List ℕ) → List (List ℕ)
-with_plan None names = names
-with_plan (Some plan) names = plan ∷ names
+-- the name of the plan, if there is one
+abbrev pub named : Option (List ℕ) → List (List ℕ)
+named None = []
+named (Some plan) = plan ∷ []
 
 -- the files that the words name, in the order in which they are read
 abbrev pub names_of : Option Meaning → List (List ℕ)
 names_of None = []
-names_of (Some (Running name plan options)) = with_plan plan (name ∷ [])
+names_of (Some (Running name plan options)) = named plan ++ name ∷ []
 names_of (Some (Injecting name plan options)) = plan ∷ name ∷ []
-names_of (Some (Twinning first second plan options)) = with_plan plan (first ∷ second ∷ [])
+names_of (Some (Twinning first second plan options)) = named plan ++ first ∷ second ∷ []
 names_of (Some (Generating seed options)) = []
 names_of (Some (Assembling name)) = name ∷ []
 names_of (Some (Disassembling name ram)) = name ∷ []
-
--- the statuses that a command has
-abbrev pub codes_of : Option Meaning → List ℕ
-codes_of None = 2 ∷ []
-codes_of (Some (Running name None options)) = 0 ∷ 1 ∷ 3 ∷ 4 ∷ 5 ∷ 7 ∷ []
-codes_of (Some (Running name (Some plan) options)) = 0 ∷ 1 ∷ 3 ∷ 4 ∷ 5 ∷ 6 ∷ 7 ∷ []
-codes_of (Some (Injecting name plan options)) = 0 ∷ 3 ∷ 4 ∷ 5 ∷ 6 ∷ 7 ∷ 8 ∷ []
-codes_of (Some (Twinning first second None options)) = 0 ∷ 3 ∷ 4 ∷ 5 ∷ 7 ∷ 9 ∷ []
-codes_of (Some (Twinning first second (Some plan) options)) = 0 ∷ 3 ∷ 4 ∷ 5 ∷ 6 ∷ 7 ∷ 9 ∷ []
-codes_of (Some (Generating number options)) = 0 ∷ 1 ∷ 4 ∷ 7 ∷ []
-codes_of (Some (Assembling name)) = 0 ∷ 3 ∷ 4 ∷ 7 ∷ 12 ∷ []
-codes_of (Some (Disassembling name ram)) = 0 ∷ 3 ∷ 4 ∷ 5 ∷ 7 ∷ []
 
 -- a fact where the words are those of `inject`, about the options
 abbrev pub IfInject : Option Meaning → (Options → Type 0) → Type 0
@@ -360,7 +380,7 @@ pub record Gives (answer : Answer) (code seal : ℕ) (before after : Option (Lis
 
 -- the output took a prefix of the text of an answer that is no refusal
 pub record IsCutShort (answer : Answer) (before after : Option (List ℕ)) : Type 0 where
-  pub runs : IsOneOf (0 ∷ 1 ∷ 8 ∷ 9 ∷ []) answer.code
+  pub runs : IsOneOf run_codes answer.code
   pub text : TookPrefix before answer.text after
 
 -- The output took the text of a verdict in which the bus doesn't differ without an alert, which comes at most the delay
@@ -380,11 +400,11 @@ pub record IsImageIn (told : Option Contents) (name : List ℕ) (ram : Ram) (ima
   pub placed : image ≡ image_of bytes ram
 
 -- a plan is that of the text of this one, which isn't refused; without a name it is empty
-abbrev pub IsPlanIn : Option Contents → Option (List ℕ) → Options → PlanValue → Type 0
-IsPlanIn told None options plan = plan ≡ empty_plan
-IsPlanIn told (Some name) options plan =
+abbrev pub IsPlanIn : Option Contents → Option (List ℕ) → Bounds → PlanValue → Type 0
+IsPlanIn told None bounds plan = plan ≡ empty_plan
+IsPlanIn told (Some name) bounds plan =
     (text : List ℕ) × (IsContent told name text × ((nat_lt plan_limit (length text) ≡ false) ×
-    (plan_of (bounds_of Run options) text ≡ Ok plan)))
+    (plan_of bounds text ≡ Ok plan)))
 
 -- The output took the text of how the runs of both files' images compare, the status says whether they differ, and the
 -- cycles of
@@ -394,7 +414,7 @@ pub record TellsTime (told : Option Contents) (first second : List ℕ) (plan : 
   pub planned : PlanValue
   pub a : Placed
   pub b : Placed
-  pub of_plan : IsPlanIn told plan options planned
+  pub of_plan : IsPlanIn told plan (bounds_of 0 options) planned
   pub of_first : IsImageIn told first options.ram a
   pub of_second : IsImageIn told second options.ram b
   pub status : code ≡ twin_code (differs (compared_by options planned a b))

@@ -1,59 +1,30 @@
 //! A file's code turned into text.
-ghost use Rattle.std.specs.Prelude.{◌≡◌, ◌≤◌, [], ◌∷◌, length};
+ghost use Rattle.std.specs.Prelude.{◌≡◌, [], ◌∷◌};
 ghost use Rattle.ibx_elf.specs.Ram.{IsRamRange};
-ghost use Rattle.ibx_top.specs.Answers.{dis_answer, file_limit, listed, IsAnswerTo};
-ghost use Rattle.ibx_top.specs.Outcomes.{IfBadWords, IsPastReading, Prints, Reads};
+ghost use Rattle.ibx_top.specs.Answers.{IsListed};
+ghost use Rattle.ibx_top.specs.Outcomes.{Leaves, end_of};
 
-use crate::outcome::Outcome;
-use crate::task::FILE_LIMIT;
-use ibx_base::{Failed, Files, ReadEnd, Sink, read_all};
-use ibx_elf::{Image, Ram, load};
+use crate::outcome::{Finish, Outcome, Refusal};
+use crate::steps::{FILE_LIMIT, load_image, read_bytes};
+use ibx_base::{Files, Sink};
+use ibx_command::Disassemble;
 use ibx_dis::print_listing;
 use std::alloc::Global;
 
-// Writes the code of an image as text.
-fn print_image<'w, K: Sink>(image: &Image<'_>, out: &mut K) -> Outcome<'w>
-    ensures past { IsPastReading result }
-    ensures prints { Prints K.taken K.faults (λ answer. answer ≡ listed image.now) result out.old out.new }
-{
-    match print_listing(image, out) {
-        Ok(()) => Outcome::Written,
-        Err(Failed) => Outcome::CannotWrite,
-    }
-}
-
-// The same of a file's bytes.
-fn print_bytes<'w, K: Sink>(name: &'w str, bytes: &[u8], ram: Ram, out: &mut K) -> Outcome<'w>
-    requires ram { IsRamRange ram }
-    requires fits { length bytes.now ≤ file_limit }
-    ensures past { IsPastReading result }
-    ensures prints { Prints K.taken K.faults (λ answer. answer ≡ dis_answer name.now ram bytes.now) result
-        out.old out.new }
-{
-    match load(bytes, ram) {
-        Ok(image) => print_image(&image, out),
-        Err(fault) => Outcome::Refused(name, fault),
-    }
-}
-
 /// Reads a file, and writes its code as text.
-pub(crate) fn disassemble_file<'w, F: Files, K: Sink>(
+pub(crate) fn disassemble<'w, F: Files, K: Sink>(
     alloc: Global,
-    name: &'w str,
-    ram: Ram,
+    asked: Disassemble<'w>,
     files: &mut F,
     out: &mut K,
-) -> Outcome<'w>
-    requires { IsRamRange ram }
-    ensures words { IfBadWords result ⊥ }
-    ensures reads { Reads F.contents F.begun F.faults F.misses (name.now ∷ []) result files.old files.new }
-    ensures prints { Prints K.taken K.faults (IsAnswerTo (F.contents files.old) name.now (dis_answer name.now ram))
-        result out.old out.new }
+) -> Result<Finish, Outcome<'w>>
+    requires { IsRamRange asked.ram }
+    ensures { Leaves F.contents F.begun F.faults F.misses K.taken K.faults (asked.entry.file.now ∷ [])
+        (IsListed (F.contents files.old) asked.entry.file.now asked.entry.ram)
+        (end_of result) files.old files.new out.old out.new }
 {
-    match read_all(alloc, files, name, FILE_LIMIT) {
-        Ok(bytes) => print_bytes(name, &bytes, ram, out),
-        Err(ReadEnd::Failed) => Outcome::CannotRead(name),
-        Err(ReadEnd::TooLong) => Outcome::TooLong(name),
-        Err(ReadEnd::Memory) => Outcome::OutOfMemory,
-    }
+    let bytes = read_bytes(alloc, asked.file, FILE_LIMIT, Refusal::FileTooLong, files)?;
+    let image = load_image(asked.file, &bytes, asked.ram)?;
+    print_listing(&image, out)?;
+    Ok(Finish::Written)
 }

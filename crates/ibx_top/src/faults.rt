@@ -8,9 +8,9 @@ ghost use Rattle.ibx_top.specs.ErrLines.{asm_kind_text as asm_kind_text_lem, asm
 
 use arrayvec::ArrayString;
 use ibx_asm::{AsmFault, AsmKind};
-use ibx_text::Digits;
 use ibx_elf::ElfFault;
 use ibx_plan::{LineKind, PlanFault};
+use ibx_text::Digits;
 
 /// The end of a line, which has at most 45 bytes.
 pub(crate) type Text = ArrayString<48>;

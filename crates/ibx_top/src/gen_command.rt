@@ -3,26 +3,23 @@ ghost use Rattle.std.specs.Prelude.{◌≡◌, ◌++◌, OnOk, OnErr};
 ghost use Rattle.ibx_base.specs.Counts.{HasCause};
 ghost use Rattle.ibx_base.specs.Sinks.{with_more, TookPrefix};
 ghost use Rattle.ibx_command.specs.Options.{IsInRange};
-ghost use Rattle.ibx_time_machine.specs.Whole.{IsPlaced};
-ghost use Rattle.ibx_plan.specs.Plan.{empty_plan};
 ghost use Rattle.ibx_trace.specs.Lines.{end_line_of};
-ghost use Rattle.ibx_top.specs.Answers.{generated_by, setup_of, summed_by};
+ghost use Rattle.ibx_top.specs.Answers.{generated_by};
 ghost use Rattle.ibx_top.specs.Generated.{sum_lines as sum_lines_lem};
-ghost use Rattle.ibx_top.specs.Outcomes.{IsPastReading, Prints};
+ghost use Rattle.ibx_top.specs.Outcomes.{IfBadWords, IfUnread, Prints, end_of};
 
 use crate::bytes::are_bytes;
 use crate::driving::print_end;
-use crate::outcome::Outcome;
+use crate::outcome::{Finish, Outcome};
 use crate::seal::field_sum;
-use crate::system::open_system;
+use crate::steps::open_system;
 use crate::totals::{Total, run_total};
 use arrayvec::ArrayString;
 use ibx_base::{Failed, Sink, write_all};
-use ibx_command::Options;
-use ibx_text::Digits;
-use ibx_elf::{Image, Ram, load};
-use ibx_gen::generate;
+use ibx_command::Generate;
+use ibx_elf::{Ram, load};
 use ibx_plan::Plan;
+use ibx_text::Digits;
 use std::alloc::Global;
 
 // The memory of the run, that of a run without options: 1 MiB from 0x0010_0000 on.
@@ -71,52 +68,30 @@ fn print_total<K: Sink>(seed: u32, total: &Total, cycles: u64, out: &mut K) -> R
     print_end(total.halted, cycles, total.events, out)
 }
 
-// Runs the image of a number's program on two cores in lockstep, and writes what it comes to.
-fn run_seed<'w, K: Sink>(
-    alloc: Global,
-    seed: u32,
-    image: &Image<'_>,
-    options: Options,
-    out: &mut K,
-) -> Outcome<'w>
-    requires range { IsInRange options }
-    requires placed { IsPlaced (setup_of options empty_plan image.now) }
-    ensures past { IsPastReading result }
-    ensures prints { Prints K.taken K.faults (λ answer. answer ≡ summed_by seed options image.now) result
-        out.old out.new }
-{
-    let plan = Plan::empty(alloc);
-    let Ok(mut soc) = open_system(alloc, image, options, &plan) else {
-        return Outcome::OutOfMemory;
-    };
-    let total = run_total(&mut soc, options.cycles);
-    match print_total(seed, &total, soc.cycle(), out) {
-        Ok(()) => Outcome::Ran {
-            halted: total.halted,
-            seal: field_sum(soc.main()),
-        },
-        Err(Failed) => Outcome::CannotWrite,
-    }
-}
-
 /// Makes the file that a number gives, runs it in the memory of a run without options and without a plan, and writes
 /// what the run comes to. The file is never refused.
-pub(crate) fn do_seed<'w, K: Sink>(
+pub(crate) fn generate<'w, K: Sink>(
     alloc: Global,
-    seed: u32,
-    options: Options,
+    asked: Generate,
     out: &mut K,
-) -> Outcome<'w>
-    requires { IsInRange options }
-    ensures past { IsPastReading result }
-    ensures prints { Prints K.taken K.faults (λ answer. answer ≡ generated_by seed options) result out.old out.new }
+) -> Result<Finish, Outcome<'w>>
+    requires { IsInRange asked.options }
+    ensures words { IfBadWords (end_of result) ⊥ }
+    ensures read { IfUnread (end_of result) (λ _. ⊥) }
+    ensures prints { Prints K.taken K.faults (λ answer. answer ≡ generated_by asked.seed asked.options)
+        (end_of result) out.old out.new }
 {
-    let Ok(file) = generate(alloc, seed) else {
-        return Outcome::OutOfMemory;
-    };
+    let plan = Plan::empty(alloc);
+    let file = ibx_gen::generate(alloc, asked.seed)?;
     are_bytes(&file);
     let Ok(image) = load(&file, RAM) else {
         unreachable!()
     };
-    run_seed(alloc, seed, &image, options, out)
+    let mut soc = open_system(alloc, &image, asked.options, &plan)?;
+    let total = run_total(&mut soc, asked.options.cycles);
+    print_total(asked.seed, &total, soc.cycle(), out)?;
+    Ok(Finish::Ran {
+        halted: total.halted,
+        seal: field_sum(soc.main()),
+    })
 }

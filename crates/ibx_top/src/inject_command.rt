@@ -1,24 +1,21 @@
-//! An image run twice, with and without the flip of a plan.
-ghost use Rattle.std.specs.Prelude.{◌≡◌, ◌+◌, ◌≤◌, ◌<◌, length, true, IfSome};
-ghost use Rattle.ibx_plan.specs.Plan.{FlipFits};
+//! A file run twice, with and without the flip of a plan.
+ghost use Rattle.std.specs.Prelude.{◌≡◌, ◌+◌, ◌≤◌, ◌<◌, [], ◌∷◌, length, true, IfSome};
 ghost use Rattle.ibx_plan.specs.Sites.{site_fits};
 ghost use Rattle.ibx_lockstep.specs.Delays.{cycles_of};
 ghost use Rattle.ibx_soc.specs.First.{IsAsNew};
 ghost use Rattle.ibx_compare.specs.Verdicts.{IsNoticed};
 ghost use Rattle.ibx_top.specs.Verdicts.{verdict_by};
 ghost use Rattle.ibx_command.specs.Options.{IsInRange};
-ghost use Rattle.ibx_top.specs.Answers.{bounds_of, injected_by};
-ghost use Rattle.ibx_top.specs.declared.task.Task.TheVariants.{Inject};
-ghost use Rattle.ibx_top.specs.Outcomes.{EndsNoticed, IsPastReading, Prints};
+ghost use Rattle.ibx_top.specs.Answers.{IsInject};
+ghost use Rattle.ibx_top.specs.Outcomes.{EndsNoticed, Leaves, end_of};
 
-use crate::outcome::Outcome;
-use crate::system::open_system;
+use crate::outcome::{Finish, Outcome, Refusal};
+use crate::steps::{FILE_LIMIT, load_image, open_system, read_bytes, read_plan};
 use crate::verdict::print_verdict;
-use ibx_base::{Failed, Sink};
-use ibx_command::Options;
-use ibx_compare::{Verdict, inject};
-use ibx_elf::Image;
-use ibx_plan::{Flip, Plan};
+use ibx_base::{Files, Sink};
+use ibx_command::Inject;
+use ibx_compare::Verdict;
+use ibx_plan::Flip;
 use ibx_soc::Soc;
 use std::alloc::Global;
 
@@ -35,7 +32,7 @@ fn compare(clean: &mut Soc<'_>, faulty: &mut Soc<'_>, flip: Option<Flip>, cycles
     ensures noticed { IsNoticed (clean.old.delay + 1) result }
 {
     match flip {
-        Some(flip) => inject(clean, faulty, &flip, cycles),
+        Some(flip) => ibx_compare::inject(clean, faulty, &flip, cycles),
         None => Verdict {
             first_diff: None,
             first_alert: None,
@@ -43,32 +40,28 @@ fn compare(clean: &mut Soc<'_>, faulty: &mut Soc<'_>, flip: Option<Flip>, cycles
     }
 }
 
-/// Runs an image with and without the flip of a plan.
-#[tactic(auto, using(crate::proofs::Systems::memory_size, crate::proofs::Systems::first_delay))]
-pub(crate) fn inject_image<'w, K: Sink>(
+/// Reads a plan and a file, runs the file with and without the flip of the plan, and writes the verdict.
+pub(crate) fn inject<'w, F: Files, K: Sink>(
     alloc: Global,
-    image: &Image<'_>,
-    options: Options,
-    plan: &Plan,
+    asked: Inject<'w>,
+    files: &mut F,
     out: &mut K,
-) -> Outcome<'w>
-    requires range { IsInRange options }
-    requires ram { image.now.ram ≡ options.ram }
-    requires flip { IfSome plan.now.flip (FlipFits (bounds_of Inject options)) }
-    ensures past { IsPastReading result }
-    ensures noticed { EndsNoticed (cycles_of options.delay) result (K.taken out.old) (K.taken out.new) }
-    ensures prints { Prints K.taken K.faults (λ answer. answer ≡ injected_by options plan.now image.now) result out.old
-        out.new }
+) -> Result<Finish, Outcome<'w>>
+    requires { IsInRange asked.options }
+    ensures leaves { Leaves F.contents F.begun F.faults F.misses K.taken K.faults
+        (asked.entry.plan.now ∷ asked.entry.file.now ∷ [])
+        (IsInject (F.contents files.old) asked.entry.file.now asked.entry.plan.now asked.entry.options)
+        (end_of result) files.old files.new out.old out.new }
+    ensures noticed { EndsNoticed (cycles_of asked.entry.options.delay) (end_of result) (K.taken out.old)
+        (K.taken out.new) }
 {
-    let Ok(mut clean) = open_system(alloc, image, options, plan) else {
-        return Outcome::OutOfMemory;
-    };
-    let Ok(mut faulty) = open_system(alloc, image, options, plan) else {
-        return Outcome::OutOfMemory;
-    };
+    let options = asked.options;
+    let plan = read_plan(alloc, Some(asked.plan), 1, options, files)?;
+    let bytes = read_bytes(alloc, asked.file, FILE_LIMIT, Refusal::FileTooLong, files)?;
+    let image = load_image(asked.file, &bytes, options.ram)?;
+    let mut clean = open_system(alloc, &image, options, &plan)?;
+    let mut faulty = open_system(alloc, &image, options, &plan)?;
     let verdict = compare(&mut clean, &mut faulty, plan.flip(), options.cycles);
-    match print_verdict(&verdict, out) {
-        Ok(()) => Outcome::Injected(verdict.first_alert.is_some()),
-        Err(Failed) => Outcome::CannotWrite,
-    }
+    print_verdict(&verdict, out)?;
+    Ok(Finish::Injected(verdict.first_alert.is_some()))
 }

@@ -11,8 +11,7 @@ mod inject_command;
 mod outcome;
 mod run_command;
 mod seal;
-mod system;
-mod task;
+mod steps;
 #[cfg(test)]
 mod tests;
 mod top;

@@ -1,24 +1,51 @@
 //! The whole program as one call.
-ghost use Rattle.std.specs.Prelude.{◌≡◌, ◌↔◌, ◌⊎◌, [], ◌∷◌, ℕ, List, None, IsSome, map, string_bytes};
+ghost use Rattle.std.specs.Prelude.{◌≡◌, ◌↔◌, ◌⊎◌, ℕ, List, Some, None, IsSome, map, string_bytes};
 ghost use Rattle.ibx_base.specs.Counts.{Rose};
 ghost use Rattle.ibx_base.specs.Files.{IsBegunAs};
-ghost use Rattle.ibx_command.specs.Command.{command_of};
+ghost use Rattle.ibx_command.specs.Command.{IsPossible, command_of, meaning_of};
 ghost use Rattle.ibx_lockstep.specs.Delays.{cycles_of};
 ghost use Rattle.ibx_top.specs.ErrLines.{bad_words_line, cannot_read_line, cannot_write_line, out_of_memory_line};
 ghost use Rattle.ibx_top.specs.Answers.{Answer, IsAnswer, IfInject, names_of, codes_of, Gives, IsCutShort, Notices};
 ghost use Rattle.ibx_top.specs.Answers.{IsOneOf, IsAmong, AreThere, Says};
+ghost use Rattle.ibx_top.specs.Answers.{answer_codes, run_codes, silent_codes, unsealed_codes};
 ghost use Rattle.ibx_top.specs.Answers.{IfTwin, TellsTime};
-ghost use Rattle.ibx_top.specs.Outcomes.{EndsNoticed, Fits, Prints, Reads};
+ghost use Rattle.ibx_top.specs.Outcomes.{EndsNoticed, Fits, Leaves, Prints, Reads, end_of as end_of_lem};
 
-use crate::asm_command::assemble_file;
-use crate::dis_command::disassemble_file;
-use crate::gen_command::do_seed;
-use crate::outcome::{Outcome, report};
-use crate::task::{Task, do_planned, run_plain};
-use crate::twin_command::compare;
+use crate::asm_command::assemble;
+use crate::dis_command::disassemble;
+use crate::gen_command::generate;
+use crate::inject_command::inject;
+use crate::outcome::{Finish, Outcome, end_of, report};
+use crate::run_command::run;
+use crate::twin_command::twin;
 use ibx_base::{Files, Sink, Status};
 use ibx_command::{Command, read_words};
 use std::alloc::Global;
+
+// Does a command.
+fn obey<'w, F: Files, K: Sink>(
+    alloc: Global,
+    command: Command<'w>,
+    files: &mut F,
+    out: &mut K,
+) -> Result<Finish, Outcome<'w>>
+    requires { IsPossible command }
+    ensures leaves { Leaves F.contents F.begun F.faults F.misses K.taken K.faults
+        (names_of (Some (meaning_of command.entry)))
+        (IsAnswer (F.contents files.old) (Some (meaning_of command.entry)))
+        (end_of_lem result) files.old files.new out.old out.new }
+    ensures noticed { IfInject (Some (meaning_of command.entry)) (λ options.
+        EndsNoticed (cycles_of options.delay) (end_of_lem result) (K.taken out.old) (K.taken out.new)) }
+{
+    match command {
+        Command::Run(asked) => run(alloc, asked, files, out),
+        Command::Inject(asked) => inject(alloc, asked, files, out),
+        Command::Twin(asked) => twin(alloc, asked, files, out),
+        Command::Generate(asked) => generate(alloc, asked, out),
+        Command::Assemble(asked) => assemble(alloc, asked, files, out),
+        Command::Disassemble(asked) => disassemble(alloc, asked, files, out),
+    }
+}
 
 // Does what the words say.
 fn perform<'w, F: Files, K: Sink>(
@@ -38,33 +65,7 @@ fn perform<'w, F: Files, K: Sink>(
 {
     match read_words(words) {
         None => Outcome::BadWords,
-        Some(Command::Run(asked)) => match asked.plan {
-            None => run_plain(alloc, asked.file, asked.options, files, out),
-            Some(plan) => do_planned(
-                Task::Run,
-                alloc,
-                asked.file,
-                plan,
-                asked.options,
-                files,
-                out,
-            ),
-        },
-        Some(Command::Inject(asked)) => do_planned(
-            Task::Inject,
-            alloc,
-            asked.file,
-            asked.plan,
-            asked.options,
-            files,
-            out,
-        ),
-        Some(Command::Twin(asked)) => compare(alloc, asked, files, out),
-        Some(Command::Generate(asked)) => do_seed(alloc, asked.seed, asked.options, out),
-        Some(Command::Assemble(asked)) => assemble_file(alloc, asked.file, files, out),
-        Some(Command::Disassemble(asked)) => disassemble_file(
-            alloc, asked.file, asked.ram, files, out,
-        ),
+        Some(command) => end_of(obey(alloc, command, files, out)),
     }
 }
 
@@ -116,7 +117,7 @@ pub fn ibex<F: Files, K: Sink, E: Sink>(
     // The statuses that the command has.
     ensures codes { IsOneOf (codes_of (command_of (map string_bytes words.now))) result.code }
     // The seal is 0 but for a run and a comparison.
-    ensures unsealed { IsOneOf (2 ∷ 3 ∷ 4 ∷ 5 ∷ 6 ∷ 7 ∷ 8 ∷ 12 ∷ []) result.code → result.seal ≡ 0 }
+    ensures unsealed { IsOneOf unsealed_codes result.code → result.seal ≡ 0 }
 
     // Status 2 comes exactly where the words don't fit, and then the files aren't touched.
     ensures bad_words { (result.code ≡ 2) ↔ (command_of (map string_bytes words.now) ≡ None) }
@@ -133,15 +134,15 @@ pub fn ibex<F: Files, K: Sink, E: Sink>(
         → Says (E.taken err.old) (E.taken err.new) (E.faults err.old) (E.faults err.new) out_of_memory_line }
 
     // What is left alone. Where the names are told and each name in the words is there, none is missed.
-    ensures silent { IsOneOf (2 ∷ 3 ∷ 5 ∷ 6 ∷ 7 ∷ 12 ∷ []) result.code → out.new ≡ out.old }
-    ensures quiet { IsOneOf (0 ∷ 1 ∷ 8 ∷ 9 ∷ []) result.code → err.new ≡ err.old }
+    ensures silent { IsOneOf silent_codes result.code → out.new ≡ out.old }
+    ensures quiet { IsOneOf run_codes result.code → err.new ≡ err.old }
     ensures kept { F.contents files.new ≡ F.contents files.old }
     ensures misses { AreThere (F.contents files.old) (names_of (command_of (map string_bytes words.now)))
         → F.misses files.new ≡ F.misses files.old }
 
     // Statuses 0, 1, 5, 6, 8, 9 and 12 are those of the answer to the bytes of the files, with its whole text and line.
     // Where the bytes aren't told, it is that to some bytes.
-    ensures answered { IsOneOf (0 ∷ 1 ∷ 5 ∷ 6 ∷ 8 ∷ 9 ∷ 12 ∷ []) result.code → (answer : Answer)
+    ensures answered { IsOneOf answer_codes result.code → (answer : Answer)
         × (IsAnswer (F.contents files.old) (command_of (map string_bytes words.now)) answer
         × (Gives answer result.code result.seal (K.taken out.old) (K.taken out.new)
         × Says (E.taken err.old) (E.taken err.new) (E.faults err.old) (E.faults err.new) answer.line)) }
@@ -149,12 +150,12 @@ pub fn ibex<F: Files, K: Sink, E: Sink>(
     // Of `inject`: the bus doesn't differ without an alert, which comes at most the delay plus one cycles after the
     // first difference.
     ensures noticed { IfInject (command_of (map string_bytes words.now)) (λ options.
-        IsOneOf (0 ∷ 8 ∷ []) result.code
+        IsOneOf run_codes result.code
         → Notices (cycles_of options.delay) result.code (K.taken out.old) (K.taken out.new)) }
 
     // Of `twin`: the cycles of both stories are the same as far as the answer says that the views are.
     ensures in_time { IfTwin (command_of (map string_bytes words.now)) (λ first second plan options.
-        IsOneOf (0 ∷ 9 ∷ []) result.code → TellsTime (F.contents files.old) first second plan options result.code
+        IsOneOf run_codes result.code → TellsTime (F.contents files.old) first second plan options result.code
         (K.taken out.old) (K.taken out.new)) }
 
     // Where the bytes are told, and neither files nor `out` count a fault, nothing but want of memory comes in place of

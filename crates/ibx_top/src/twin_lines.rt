@@ -9,8 +9,8 @@ ghost use Rattle.ibx_top.specs.Twins.{side_line as side_line_lem, twin_text};
 use arrayvec::ArrayString;
 use ibx_base::{Failed, Sink, write_all};
 use ibx_compare::Twin;
-use ibx_text::Digits;
 use ibx_isa::View;
+use ibx_text::Digits;
 use ibx_trace::view_line;
 
 // The line of a count or an index, which has at most 28 bytes.

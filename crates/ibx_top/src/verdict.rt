@@ -10,8 +10,8 @@ use arrayvec::ArrayString;
 use bitflags::Flags;
 use ibx_base::{Failed, Sink, write_all};
 use ibx_compare::Verdict;
-use ibx_text::Digits;
 use ibx_isa::Alerts;
+use ibx_text::Digits;
 
 // A line, which has at most 46 bytes.
 type Line = ArrayString<48>;

@@ -37,13 +37,32 @@ fn flips_are_told_or_change_nothing(rt: HostRuntime) -> Result<(), Fail> {
             "inject halt --plan p --cycles 5",
             "flip 4 main id_word 15",
             8,
+            "diff 4\nalert 7 internal\n",
+        ),
+        (
+            "inject halt --plan p --cycles 5 --delay 1",
+            "flip 4 main id_word 15",
+            8,
             "diff 4\nalert 6 internal\n",
+        ),
+        (
+            "inject halt --plan p --cycles 5 --delay 4",
+            "flip 4 main id_word 15",
+            8,
+            "diff 4\nalert 9 internal\n",
         ),
         (
             "inject halt --plan p --cycles 10",
             "flip 4 shadow id_word 15",
             8,
-            "diff none\nalert 4 internal\n",
+            "diff none\nalert 5 internal\n",
+        ),
+        // What the comparator keeps is an alert in the same cycle.
+        (
+            "inject halt --plan p --cycles 10",
+            "flip 3 delay 0 told 0",
+            8,
+            "diff none\nalert 3 internal\n",
         ),
         // A register that isn't read, a check bit of one that is, and the bit of one that is stored.
         (
@@ -103,14 +122,15 @@ fn plans_are_refused(rt: HostRuntime) -> Result<(), Fail> {
         ("iwait a 0", "ibex: p: plan line 1 number\n"),
         ("irq 5 8\nirq 5 0", "ibex: p: plan line 2 order\n"),
         ("flip 0 mem 262144 0", "ibex: p: plan line 1 range\n"),
-        // The budget is 9 cycles.
-        ("flip 9 reg 31 0", "ibex: p: plan line 1 range\n"),
+        // The budget is 10 cycles, and the delay 2.
+        ("flip 10 reg 31 0", "ibex: p: plan line 1 range\n"),
+        ("flip 3 delay 2 lines 0", "ibex: p: plan line 1 range\n"),
     ];
     for (plan, err) in rows {
         let mut files = files_with(rt.alloc(), plan)?;
         let shown = call(
             rt.alloc(),
-            "inject halt --plan p --cycles 9",
+            "inject halt --plan p --cycles 10",
             &mut files,
             0,
             0,

@@ -386,6 +386,60 @@ fn accesses_and_protection(rt: HostRuntime) -> Result<(), Fail> {
 }
 
 #[test]
+fn protection_by_mseccfg(rt: HostRuntime) -> Result<(), Fail> {
+    let rows: [Row; 3] = [
+        (
+            "M mode needs an entry to fetch",
+            "run a --cycles 8",
+            "",
+            ENTRY,
+            &[0x7470e073, 0x00000013],
+            1,
+            "R 2 00100080 7470e073\n\
+             T 4 00100084 cause=1 tval=00100084\n\
+             T 7 00100000 cause=1 tval=00100000\n\
+             E budget 8 3\n",
+        ),
+        (
+            "RLB is set",
+            "run a",
+            "",
+            ENTRY,
+            &[0x74726073, 0x747024f3, 0x00020337, 0x00100393, 0x00732423],
+            0,
+            "R 2 00100080 74726073\n\
+             R 3 00100084 747024f3 x09=00000004\n\
+             R 4 00100088 00020337 x06=00020000\n\
+             R 5 0010008c 00100393 x07=00000001\n\
+             R 7 00100090 00732423 m00020008=00000001/4\n\
+             E halt 8 5\n",
+        ),
+        (
+            "RLB stays 0 beside a locked entry that is off",
+            "run a",
+            "",
+            ENTRY,
+            &[
+                0x08000293, 0x3a029073, 0x74726073, 0x747024f3, 0x00020337, 0x00100393, 0x00732423,
+            ],
+            0,
+            "R 2 00100080 08000293 x05=00000080\n\
+             R 3 00100084 3a029073\n\
+             R 4 00100088 74726073\n\
+             R 5 0010008c 747024f3 x09=00000000\n\
+             R 6 00100090 00020337 x06=00020000\n\
+             R 7 00100094 00100393 x07=00000001\n\
+             R 9 00100098 00732423 m00020008=00000001/4\n\
+             E halt 10 7\n",
+        ),
+    ];
+    for row in rows {
+        run_row(&rt, rt.alloc(), row)?;
+    }
+    Ok(())
+}
+
+#[test]
 fn fences_interrupts_and_dummies(rt: HostRuntime) -> Result<(), Fail> {
     let rows: [Row; 5] = [
         (

@@ -14,5 +14,5 @@ loop-field-preserved c = record {
 
 pub returns : goal.returns
 returns c =
-    let all : c.loop-field.field ≡ 87 = omega (arith, c.loop-field-test.false, c.loop-field.auto.field-end) in
+    let all : c.loop-field.field ≡ 89 = omega (arith, c.loop-field-test.false, c.loop-field.auto.field-end) in
     c.loop-field.invariant.so_far ∙ ap (sum_to c.args.core.now) all ∙ all_fields c.args.core.now
