@@ -4,18 +4,17 @@
 # `documents: N passed, M failed`.
 set -eu
 cd "$(dirname "$0")/.."
-if ! (cd crates/ibx_cli && rt run -- run data/store.elf >/dev/null 2>&1); then
-    echo "documents: the program isn't built, or its sample doesn't end with status 0"
+if ! program=$(tools/program.sh); then
     echo "documents: 0 passed, 1 failed"
     exit 1
 fi
-python3 - "$PWD" <<'PYTHON'
+python3 - "$PWD" "$program" <<'PYTHON'
 import pathlib
 import subprocess
 import sys
 import tempfile
 
-root = pathlib.Path(sys.argv[1])
+root, program = pathlib.Path(sys.argv[1]), sys.argv[2]
 passed = failed = 0
 for page, folder in (("docs/TIMING.md", "docs"), ("README.md", ".")):
     # A command, and the lines that are to follow it.
@@ -28,7 +27,7 @@ for page, folder in (("docs/TIMING.md", "docs"), ("README.md", ".")):
         else:
             steps.append(None)
     with tempfile.TemporaryDirectory() as work:
-        place = f"ibex() {{ '{root}/crates/ibx_cli/out/ibx_cli' \"$@\"; }}\n"
+        place = f"ibex() {{ '{program}' \"$@\"; }}\n"
         for command, wanted in filter(None, steps):
             # Files of /tmp in a page stand in a folder of this run's own.
             command = command.replace("/tmp/", f"{work}/")

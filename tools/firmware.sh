@@ -5,6 +5,10 @@
 set -eu
 cd "$(dirname "$0")/.."
 folder=$(realpath -m "${1:-firmware}")
+if ! program=$(tools/program.sh); then
+    echo "firmware: 0 passed, 1 failed"
+    exit 1
+fi
 
 passed=0
 failed=0
@@ -12,7 +16,7 @@ for elf in "$folder"/*.elf; do
     name=$(basename "$elf" .elf)
     trace=$(mktemp)
     status=0
-    (cd crates/ibx_cli && rt run -- run "$elf" >"$trace" 2>/dev/null) || status=$?
+    "$program" run "$elf" >"$trace" 2>/dev/null || status=$?
     if [ "$status" = 0 ] && python3 firmware/console.py <"$trace" | cmp -s - "$folder/$name.console" &&
         tail -n 1 "$trace" | cmp -s - "$folder/$name.end"; then
         echo "firmware: $name: $(tail -n 1 "$trace")"

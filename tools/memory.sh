@@ -6,11 +6,7 @@
 # The last line is `memory: N passed, M failed`.
 set -u
 cd "$(dirname "$0")/../crates/ibx_cli"
-program=$PWD/out/ibx_cli
-if [ ! -x "$program" ]; then
-    echo "memory: build the program first"
-    exit 1
-fi
+program=$(../../tools/program.sh) || exit 1
 work=$(mktemp -d)
 trap 'rm -rf "$work"' EXIT
 printf 'flip 4 main id_word 15\n' >"$work/told.plan"
@@ -87,7 +83,7 @@ E halt 6 3
 refuse 0 "same 3
 " twin data/store.elf data/store.elf
 refuse 8 "diff 4
-alert 6 internal
+alert 7 internal
 " inject data/store.elf --plan "$work/told.plan" --cycles 5
 
 echo "memory: $passed passed, $failed failed"

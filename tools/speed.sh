@@ -9,10 +9,9 @@ if [ $# != 1 ] || [ ! -x "$1" ]; then
     exit 2
 fi
 other=$(realpath "$1")
-cd "$(dirname "$0")/../crates/ibx_cli"
-rt run -- run data/store.elf >/dev/null
-ours=$PWD/out/ibx_cli
-firmware=$(realpath ../../firmware/hash_os.elf)
+cd "$(dirname "$0")/.."
+ours=$(tools/program.sh)
+firmware=$PWD/firmware/hash_os.elf
 cycles=113568
 plan=$(mktemp)
 trap 'rm -f "$plan"' EXIT

@@ -1,15 +1,12 @@
 #!/usr/bin/env bash
 # Runs the program on real files and streams, once for each status that they give, and compares its status, its
-# standard output and its standard error with what they must be. Builds it first, over what the gate proved.
-# The last line is `statuses: N passed, M failed`.
+# standard output and its standard error with what they must be. The last line is `statuses: N passed, M failed`.
 set -u
 cd "$(dirname "$0")/../crates/ibx_cli"
-if ! rt run -- run data/store.elf >/dev/null 2>&1; then
-    echo "statuses: the program isn't built, or its sample doesn't end with status 0"
+if ! ibex=$(../../tools/program.sh); then
     echo "statuses: 0 passed, 1 failed"
     exit 1
 fi
-ibex=$PWD/out/ibx_cli
 work=$(mktemp -d)
 trap 'rm -rf "$work"' EXIT
 cp data/store.elf "$work"
@@ -62,11 +59,19 @@ write("none.plan", b"iwait 1 0\n")
 
 
 
+# A file of these words.
+def made_of(words):
+    code = struct.pack(f"<{len(words)}I", *words)
+    return file_header(BASE, 1) + program_header(1, 84, BASE, len(code), len(code), 7, 4) + code
+
+
+# A jump to itself.
+write("loop.elf", made_of([0x0000006F]))
+
+
 # A division by a secret, the last word, after a word that makes times equal (csrrsi x0, cpuctrl, 2) or an idle one.
 def dividing(first, by):
-    words = [first, 0x00100537, 0x0A052403, 0x028544B3, 0x00020337, 0x00100393, 0x00732423, 0, by]
-    code = struct.pack("<9I", *words)
-    return file_header(BASE, 1) + program_header(1, 84, BASE, len(code), len(code), 7, 4) + code
+    return made_of([first, 0x00100537, 0x0A052403, 0x028544B3, 0x00020337, 0x00100393, 0x00732423, 0, by])
 
 
 write("even7.elf", dividing(0x7C016073, 7))
@@ -153,6 +158,16 @@ row "an empty word" 2 "" "ibex: bad words
 " "$ibex" ""
 row "a budget of 0" 2 "" "ibex: bad words
 " "$ibex" run store.elf --cycles 0
+for delay in 1 2 3 4; do
+    row "a halt with a delay of $delay" 0 "${steps}E halt 6 3
+" "" "$ibex" run store.elf --delay "$delay"
+done
+row "a delay of 0" 2 "" "ibex: bad words
+" "$ibex" run store.elf --delay 0
+row "a delay of 5" 2 "" "ibex: bad words
+" "$ibex" twin store.elf store.elf --delay 5
+row "a delay of a program from a number" 2 "" "ibex: bad words
+" "$ibex" gen 5 --delay 2
 row "a missing file" 3 "" "ibex: cannot read missing.elf
 " "$ibex" run missing.elf
 row "a folder" 3 "" "ibex: cannot read folder
@@ -161,6 +176,8 @@ row "a full output" 4 "" "ibex: cannot write
 " to_full run store.elf
 row "a closed output" 4 "" "ibex: cannot write
 " to_closed run store.elf
+row "a full output for more than is gathered" 4 "" "ibex: cannot write
+" to_full run loop.elf --cycles 9000
 row "a file cut off" 5 "" "ibex: cut.elf: elf fault 1
 " "$ibex" run cut.elf
 row "a file outside RAM" 5 "" "ibex: far.elf: elf fault 11 0
@@ -170,7 +187,7 @@ row "an odd entry" 5 "" "ibex: odd.elf: elf fault 13
 row "a long file" 5 "" "ibex: long.elf: too long
 " "$ibex" run long.elf
 row "a flip that is told" 8 "diff 4
-alert 6 internal
+alert 7 internal
 " "" "$ibex" inject store.elf --plan told.plan --cycles 5
 row "a flip that isn't read" 0 "diff none
 alert none
@@ -184,16 +201,28 @@ row "a linker's file" 0 "${steps}E halt 6 3
 " "" "$ibex" run linked.elf
 printf 'flip 4 main id_word 15\n' >noticed.plan
 printf 'flip 3 reg 31 0\n' >unused.plan
+printf 'flip 3 delay 2 lines 0\n' >slot.plan
 printf 'iwait 1 0\n' >unflipped.plan
 printf 'iwait 1 0\nflip 5 main id_word 32\n' >wide.plan
 printf '# no more\nflip 1 reg 1 1\nflip 2 reg 1 1\n' >twice.plan
 truncate -s $((4 * 1024 * 1024 + 1)) long.plan
 row "a flip that is noticed" 8 "diff 4
-alert 6 internal
+alert 7 internal
 " "" "$ibex" inject store.elf --plan noticed.plan --cycles 5
 row "a flip that isn't used" 0 "diff none
 alert none
 " "" "$ibex" inject store.elf --plan unused.plan --cycles 10
+row "a flip that is noticed after a delay of 1" 8 "diff 4
+alert 6 internal
+" "" "$ibex" inject store.elf --plan noticed.plan --cycles 5 --delay 1
+row "a flip that is noticed after a delay of 4" 8 "diff 4
+alert 9 internal
+" "" "$ibex" inject store.elf --plan noticed.plan --cycles 5 --delay 4
+row "a slot that a delay of 2 hasn't" 6 "" "ibex: slot.plan: plan line 1 range
+" "$ibex" inject store.elf --plan slot.plan --cycles 10
+row "a slot that a delay of 3 has" 0 "diff none
+alert none
+" "" "$ibex" inject store.elf --plan slot.plan --cycles 10 --delay 3
 row "inject without a plan" 2 "" "ibex: bad words
 " "$ibex" inject store.elf
 row "a missing plan" 3 "" "ibex: cannot read missing.plan
@@ -216,6 +245,10 @@ row "a division by a secret" 9 "differ 3
 a R 0010008c 028544b3 op=00100000,00000007
 b R 0010008c 028544b3 op=00100000,00000000
 " "" "$ibex" twin uneven7.elf uneven0.elf
+for delay in 1 2 3 4; do
+    row "an even division with a delay of $delay" 0 "same 7
+" "" "$ibex" twin even7.elf even0.elf --delay "$delay"
+done
 row "one file to compare" 2 "" "ibex: bad words
 " "$ibex" twin even7.elf
 row "a missing second file" 3 "" "ibex: cannot read missing.elf

@@ -1,22 +1,21 @@
 #!/usr/bin/env bash
-# Runs `inject` over the flips and `twin` over the pairs of vectors/, or of the folder that is the first argument, and
-# compares the status and the output with the answers there. Builds the program first, over what the gate proved. The
+# Runs `inject` over the flips of vectors/, or of the folder that is the first argument, each with its delay, and `twin`
+# over the pairs there with each of the four delays, and compares the status and the output with the answers there. The
 # last line is `vectors: N passed, M failed`.
 set -eu
 cd "$(dirname "$0")/.."
 folder=$(realpath -m "${1:-vectors}")
-if ! (cd crates/ibx_cli && rt run -- run data/store.elf >/dev/null 2>&1); then
-    echo "vectors: the program isn't built, or its sample doesn't end with status 0"
+if ! program=$(tools/program.sh); then
     echo "vectors: 0 passed, 1 failed"
     exit 1
 fi
-python3 - crates/ibx_cli/out/ibx_cli "$folder" <<'PYTHON'
+python3 - "$program" "$folder" <<'PYTHON'
 import pathlib
 import subprocess
 import sys
 import tempfile
 
-program, folder = pathlib.Path(sys.argv[1]).resolve(), pathlib.Path(sys.argv[2])
+program, folder = sys.argv[1], pathlib.Path(sys.argv[2])
 passed = failed = 0
 
 
@@ -34,17 +33,20 @@ def count(name, words, status, wanted):
 def flips(case, options):
     plan = (case / "plan.txt").read_text().rstrip("\n")
     for row in (case / "flips.txt").read_text().splitlines():
-        flip, status, lines = (part.strip() for part in row.split("|"))
+        delay, flip, status, lines = (part.strip() for part in row.split("|"))
         with tempfile.NamedTemporaryFile("w", suffix=".txt") as file:
             file.write(plan + "\n" + flip + "\n")
             file.flush()
-            words = ["inject", case / "a.elf", "--plan", file.name, *options]
-            count(f"{case.name}: {flip}", words, status, "".join(line + "\n" for line in lines.split(", ")))
+            words = ["inject", case / "a.elf", "--plan", file.name, *options, "--delay", delay]
+            name = f"{case.name}: {flip}, delay {delay}"
+            count(name, words, status, "".join(line + "\n" for line in lines.split(", ")))
 
 
 def twins(case, options):
-    words = ["twin", case / "a.elf", case / "b.elf", "--plan", case / "plan.txt", *options]
-    count(case.name, words, (case / "status.txt").read_text(), (case / "twin.txt").read_text())
+    for delay in "1234":
+        words = ["twin", case / "a.elf", case / "b.elf", "--plan", case / "plan.txt", *options, "--delay", delay]
+        name = f"{case.name}, delay {delay}"
+        count(name, words, (case / "status.txt").read_text(), (case / "twin.txt").read_text())
 
 
 for case in sorted(path for path in folder.iterdir() if path.is_dir()):

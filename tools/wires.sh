@@ -1,12 +1,10 @@
 #!/usr/bin/env bash
 # Prints the requests on the bus of each program of vectors/, or of the folder that is the first argument, that has a file
-# bus.txt, and compares them with it. Builds the program ibx_wires first, over what the gate proved. The last line is
-# `wires: N passed, M failed`.
+# bus.txt, and compares them with it. The last line is `wires: N passed, M failed`.
 set -eu
 cd "$(dirname "$0")/.."
 folder=$(realpath -m "${1:-vectors}")
-if ! (cd crates/ibx_wires && rt run -- run data/store.elf >/dev/null 2>&1); then
-    echo "wires: the program isn't built, or doesn't run its sample"
+if ! program=$(tools/program.sh ibx_wires); then
     echo "wires: 0 passed, 1 failed"
     exit 1
 fi
@@ -15,7 +13,7 @@ failed=0
 for wanted in "$folder"/*/bus.txt; do
     case=$(dirname "$wanted")
     read -ra options <"$case/options.txt" || true
-    if crates/ibx_wires/out/ibx_wires run "$case/a.elf" --plan "$case/plan.txt" "${options[@]}" | cmp -s - "$wanted"; then
+    if "$program" run "$case/a.elf" --plan "$case/plan.txt" "${options[@]}" | cmp -s - "$wanted"; then
         passed=$((passed + 1))
     else
         failed=$((failed + 1))
